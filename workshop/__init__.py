@@ -3,10 +3,10 @@
 Each module with a `main` runs from the top of a clone as `python3 -m workshop.NAME`.
 """
 
-import pathlib
 import sys
+from pathlib import Path
 
-TOP = pathlib.Path(__file__).resolve().parent.parent
+TOP = Path(__file__).resolve().parent.parent
 PROGRAM = TOP / "crates/rezovamy/out/rezovamy"
 FRONT = TOP / "front"
 

@@ -1,19 +1,23 @@
-#!/usr/bin/env python3
 """Breaks the clauses of source files into lines of at most a hundred columns.
 
-    python3 -m workshop.break_clauses            prints each line of a clause that is longer, and ends with status 1 if there is one
+    python3 -m workshop.break_clauses            prints each line of a clause that is longer
     python3 -m workshop.break_clauses --write    breaks them
 
-A clause is what stands in braces after `ensures`, `requires` or a `ghost` member. Where it has premises, each of them begins
-a line. A line that is still too long is broken outside as many brackets as may be, before an operator rather than before an
-argument. Lines that are short enough stay as they are. `rt fmt` lays out afterwards what was broken inside of records and tuples.
+The status is 1 where a line was printed.
+
+A clause is what stands in braces after `ensures`, `requires` or a `ghost` member. Where it has
+premises, each of them begins a line. A line that is still too long is broken outside as many
+brackets as may be, before an operator rather than before an argument. Lines that are short enough
+stay as they are. `rt fmt` lays out afterwards what was broken inside of records and tuples.
 """
+
+from __future__ import annotations
 
 import re
 import sys
+from collections.abc import Iterator, Sequence
 
 from rezovamy_runs.command_line import command_line
-
 from workshop import TOP
 
 COLUMNS = 100
@@ -31,8 +35,11 @@ OPERATORS = (
 HALVES = (":", "=", "λ", "¬", "record", "if", "then", "else", "let", "in", "{")
 
 
-def depths(line, depth=0):
-    """The number of open brackets before each character, and at the end. Brackets in texts don't count."""
+def depths(line: str, depth: int = 0) -> list[int]:
+    """The number of open brackets before each character, and at the end.
+
+    Brackets in texts don't count.
+    """
     found, is_text = [], False
     for place, character in enumerate(line):
         found.append(depth)
@@ -43,23 +50,25 @@ def depths(line, depth=0):
     return [*found, depth]
 
 
-def in_text(line, place):
+def in_text(line: str, place: int) -> bool:
     return line[:place].count('"') % 2 == 1
 
 
-def rank(word):
+def rank(word: str) -> int:
     """How loosely the operator that a word is binds; an argument binds most."""
     return next((number for number, words in enumerate(OPERATORS) if word in words), len(OPERATORS))
 
 
-def places(line, depth):
-    """Where a line may be broken inside the braces of its clause: the column, the open brackets there, and how loosely what
-    follows binds."""
+def places(line: str, depth: int) -> Iterator[tuple[int, int, int]]:
+    """Where a line may be broken inside the braces of its clause: the column, the open brackets
+    there, and how loosely what follows binds.
+    """
     found = depths(line, depth)
     begin = len(line) - len(line.lstrip())
     for place in (match.start() for match in re.finditer(" ", line)):
         before, after = line[:place].split(" ")[-1], line[place + 1 :].split(" ")[0]
-        # A line ends neither with an operator nor with a word that needs the next one, nor does it begin with a closing bracket.
+        # A line ends neither with an operator nor with a word that needs the next one, nor does it
+        # begin with a closing bracket.
         is_whole = (
             rank(before) == len(OPERATORS) and before not in HALVES and after not in (":", "=", "")
         )
@@ -75,8 +84,10 @@ def places(line, depth):
             yield place, found[place], rank(after)
 
 
-def premises(line, depth):
-    """A line with a break before each premise and what follows from them, where the clause itself says it."""
+def premises(line: str, depth: int) -> list[str]:
+    """A line with a break before each premise and what follows from them, where the clause itself
+    says it.
+    """
     breaks = [
         place
         for place, open_brackets, binds in places(line, depth)
@@ -86,7 +97,7 @@ def premises(line, depth):
     return [pieces[0], *(piece.lstrip() for piece in pieces[1:])]
 
 
-def broken(line, depth, indent):
+def broken(line: str, depth: int, indent: str) -> list[str]:
     """A line as lines that are short enough, where it can be broken."""
     lines = []
     while len(line) > COLUMNS:
@@ -99,7 +110,7 @@ def broken(line, depth, indent):
     return [*lines, line]
 
 
-def clause_lines(lines):
+def clause_lines(lines: Sequence[str]) -> list[str]:
     """The lines of a clause, each of which is short enough where it can be broken."""
     done, depth = [], 0
     for number, line in enumerate(lines):
@@ -111,8 +122,11 @@ def clause_lines(lines):
     return done
 
 
-def clause_end(lines, begin):
-    """The number of the line after what begins in a line, where that is a clause; else the line's own."""
+def clause_end(lines: Sequence[str], begin: int) -> int:
+    """The number of the line after what begins in a line, where that is a clause.
+
+    Else the line's own.
+    """
     depth = 0
     for number, line in enumerate(lines[begin:] if CLAUSE.match(lines[begin]) else [], begin):
         depth = depths(line, depth)[-1]
@@ -121,7 +135,7 @@ def clause_end(lines, begin):
     return begin
 
 
-def clauses(lines):
+def clauses(lines: Sequence[str]) -> Iterator[tuple[int, int]]:
     """The numbers of the lines with which clauses begin, and of those after them."""
     number = 0
     while number < len(lines):
@@ -131,7 +145,7 @@ def clauses(lines):
         number = max(end, number + 1)
 
 
-def long_lines(text):
+def long_lines(text: str) -> list[int]:
     """The numbers of the lines of clauses that are too long, counted from 1."""
     lines = text.split("\n")
     return [
@@ -142,7 +156,7 @@ def long_lines(text):
     ]
 
 
-def in_columns(text):
+def in_columns(text: str) -> str:
     """A text with each of its clauses in lines that are short enough."""
     lines, done, last = text.split("\n"), [], 0
     for begin, end in clauses(lines):
@@ -151,7 +165,7 @@ def in_columns(text):
     return "\n".join(done + lines[last:])
 
 
-def main():
+def main() -> int:
     parser = command_line(__doc__)
     parser.add_argument("--write", action="store_true", help="break the clauses")
     write, found = parser.parse_args().write, False

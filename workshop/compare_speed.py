@@ -1,28 +1,32 @@
-#!/usr/bin/env python3
-"""Measures two built programs in turns, and prints what each command took before and after as a table.
+"""Measures two built programs in turns, and prints what each command took before and after as a
+table.
 
     python3 -m workshop.compare_speed OLD NEW [--turns N] [--only WORD]
 
-Both run the same commands on the same sessions, one after the other and each first in every other turn: of 1,000, 10,000 and
-100,000 tests, of 10,000 tests with outputs of their own, with a binary each, and all open at once, and of 100 tests with two
-outputs of 1 MiB each. Each program reads the bundles that it recorded itself. A command that only one of them knows, by its
-`--help`, is left out; so is one that fails, which is said on standard error. A time is the least processor time of eight turns,
-or of those of `--turns`. Memory is the most that was held in any of them; less than Python itself holds, some 11 MB, isn't told
-apart. `--only` takes the rows with this word in their session or command. The sessions lie in a temporary folder, which takes up
-to 3 GB.
+Both run the same commands on the same sessions, one after the other and each first in every other
+turn: of 1,000, 10,000 and 100,000 tests, of 10,000 tests with outputs of their own, with a binary
+each, and all open at once, and of 100 tests with two outputs of 1 MiB each. Each program reads the
+bundles that it recorded itself. A command that only one of them knows, by its `--help`, is left
+out; so is one that fails, which is said on standard error. A time is the least processor time of
+eight turns, or of those of `--turns`. Memory is the most that was held in any of them; less than
+Python itself holds, some 11 MB, isn't told apart. `--only` takes the rows with this word in their
+session or command. The sessions lie in a temporary folder, which takes up to 3 GB.
 """
+
+from __future__ import annotations
 
 import collections
 import dataclasses
 import os
-import pathlib
 import re
 import subprocess
 import sys
 import tempfile
+from collections.abc import Collection, Iterator, Sequence
+from pathlib import Path
 
-from workshop import TOP
 from rezovamy_runs.command_line import command_line, demand_program, print_out, say, whole
+from workshop import TOP
 
 MAKER = [sys.executable, "-m", "workshop.make_session"]
 LIMITS = ["--session-limit", "1000000000", "--read-limit", "1000000000"]
@@ -35,13 +39,16 @@ HEADING = """\
 
 @dataclasses.dataclass(frozen=True)
 class Shape:
-    """A session: its name, and the words of the tool that makes it. It ends its run, so that all commands take it."""
+    """A session: its name, and the words of the tool that makes it.
+
+    It ends its run, so that all commands take it.
+    """
 
     name: str
-    words: tuple
+    words: tuple[str, ...]
 
     @property
-    def tests(self):
+    def tests(self) -> int:
         return int(self.words[0])
 
 
@@ -63,19 +70,21 @@ class Command:
     name: str
     source: str = "bundle"
     writes: bool = False
-    options: tuple = ()
+    options: tuple[str, ...] = ()
 
-    def words(self, shape, target):
+    def words(self, shape: Shape, target: str) -> list[str]:
         """Its words for a program; the bundle that it writes goes to the target."""
         count = [str(shape.tests)] if self.name == "sample" else []
         return [self.name, *count, *([target] if self.writes else []), *LIMITS, *self.options]
 
-    def takes(self, shape):
-        """Whether it is measured on a shape: what makes its own session only on plain ones that it can make."""
+    def takes(self, shape: Shape) -> bool:
+        """Whether it is measured on a shape: what makes its own session only on plain ones that it
+        can make.
+        """
         return self.source != "nothing" or (len(shape.words) == 1 and shape.tests <= MOST_OF_SAMPLE)
 
     @property
-    def shown(self):
+    def shown(self) -> str:
         return " ".join((self.name, *self.options))
 
 
@@ -102,11 +111,11 @@ class Cost:
     seconds: float = float("inf")
     memory: int = 0
 
-    def add(self, other):
+    def add(self, other: Cost) -> None:
         self.seconds, self.memory = min(self.seconds, other.seconds), max(self.memory, other.memory)
 
 
-def commands_of(usage):
+def commands_of(usage: str) -> set[str]:
     """The commands that the text of `--help` lists."""
     return set(re.findall(r"^(?:Usage:|      ) rezovamy (\w+)", usage, re.M))
 
@@ -118,23 +127,22 @@ class Failed(Exception):
 class Program:
     """A built program, and the folder with what it writes."""
 
-    def __init__(self, path, folder):
+    def __init__(self, path: str, folder: Path) -> None:
         self.path, self.folder = os.path.abspath(path), folder
         folder.mkdir()
 
-    def commands(self):
+    def commands(self) -> set[str]:
         """The commands that it knows."""
         return commands_of(
             subprocess.run([self.path, "--help"], capture_output=True, text=True, check=True).stdout
         )
 
-    def source(self, command, session):
+    def source(self, command: Command, session: Path) -> Path:
         """The path of what a command reads."""
-        return {"session": session, "bundle": self.folder / "bundle", "nothing": os.devnull}[
-            command.source
-        ]
+        paths = {"session": session, "bundle": self.folder / "bundle", "nothing": Path(os.devnull)}
+        return paths[command.source]
 
-    def run(self, command, shape, session):
+    def run(self, command: Command, shape: Shape, session: Path) -> Cost:
         """Runs a command to its end, and returns what it took."""
         target = "bundle" if command.source == "session" else "written"
         with open(self.source(command, session), "rb") as source, open(
@@ -144,6 +152,7 @@ class Program:
             child = subprocess.Popen(
                 words, cwd=self.folder, stdin=source, stdout=out, stderr=subprocess.PIPE
             )
+            assert child.stderr is not None
             with child.stderr:
                 said = child.stderr.read()
             _, status, used = os.wait4(child.pid, 0)
@@ -155,7 +164,9 @@ class Program:
         return Cost(used.ru_utime + used.ru_stime, used.ru_maxrss * 1024)
 
 
-def compare(programs, command, shape, session, turns):
+def compare(
+    programs: Sequence[Program], command: Command, shape: Shape, session: Path, turns: int
+) -> list[Cost]:
     """What a command took of each program, which run in turns."""
     costs = [Cost() for _ in programs]
     pairs = list(zip(programs, costs))
@@ -168,7 +179,7 @@ def compare(programs, command, shape, session, turns):
     return costs
 
 
-def row(shape, command, before, after):
+def row(shape: Shape, command: Command, before: Cost, after: Cost) -> str:
     """A row of the table."""
     ratio = f"{after.seconds / before.seconds:.2f}" if before.seconds else "-"
     times = [f"{cost.seconds:.3f} s" for cost in (before, after)]
@@ -176,8 +187,10 @@ def row(shape, command, before, after):
     return f"| {' | '.join((shape.name, f'`{command.shown}`', *times, ratio, *memory))} |\n"
 
 
-def rows_asked(known, word):
-    """The commands of each shape that are measured: those that are known and have the word in their row."""
+def rows_asked(known: Collection[str], word: str) -> dict[Shape, list[Command]]:
+    """The commands of each shape that are measured: those that are known and have the word in their
+    row.
+    """
     rows = collections.defaultdict(list)
     for shape in SHAPES:
         for command in COMMANDS:
@@ -190,7 +203,13 @@ def rows_asked(known, word):
     return rows
 
 
-def measured(programs, shape, commands, session, turns):
+def measured(
+    programs: Sequence[Program],
+    shape: Shape,
+    commands: Sequence[Command],
+    session: Path,
+    turns: int,
+) -> Iterator[str]:
     """The rows of a shape, as they are measured."""
     with open(session, "wb") as file:
         subprocess.run([*MAKER, *shape.words, "--ends"], cwd=TOP, stdout=file, check=True)
@@ -203,7 +222,7 @@ def measured(programs, shape, commands, session, turns):
             say(f"left out: {fault}")
 
 
-def main():
+def main() -> None:
     parser = command_line(__doc__)
     parser.add_argument("old", metavar="OLD", help="the program as it was built before")
     parser.add_argument("new", metavar="NEW", help="the program as it is built now")
@@ -220,7 +239,7 @@ def main():
     for path in (asked.old, asked.new):
         demand_program(parser, path)
     with tempfile.TemporaryDirectory() as name:
-        folder = pathlib.Path(name)
+        folder = Path(name)
         programs = [
             Program(path, folder / part) for path, part in ((asked.old, "old"), (asked.new, "new"))
         ]

@@ -1,45 +1,63 @@
-#!/usr/bin/env python3
-"""Runs `rt ci` from nothing and measures what each crate costs there, in processor time, wall clock and memory.
+"""Runs `rt ci` from nothing and measures what each crate costs there, in processor time, wall clock
+and memory.
 
     python3 -m workshop.gate_cost                   prints the table
     python3 -m workshop.gate_cost --processors 2    the same on so many of the machine's processors
-    python3 -m workshop.gate_cost --write           writes it into docs/PROVING.md, between the two comments there, if the gate passes
-    python3 -m workshop.gate_cost --watch 30        runs nothing: measures each `rt ci` on the machine, until no check was seen for 30 minutes
-    python3 -m workshop.gate_cost --first-run 4     measures README's first lines in place of `rt ci`, four crates at a time; 0: `rt run` alone
+    python3 -m workshop.gate_cost --write           writes it into docs/PROVING.md
+    python3 -m workshop.gate_cost --watch 30        measures each `rt ci` on the machine
+    python3 -m workshop.gate_cost --first-run 4     measures the first lines of README.md
 
-A crate has a proof; its tests, which are two checks of a crate of tests; a seed, which is a second proof where two edits or more
-begin with it, and the check at the end that it still holds; and the edits themselves. The checker's processes are looked at every
-two seconds, so what takes less isn't seen in a check. It is counted in the whole, which the system knows of a gate that has ended.
-Memory is the most that one check had at a time, with all that it started: where it has several jobs, what they share counts for
-each. Nothing else should run on the machine meanwhile.
+The table is written between the two comments of docs/PROVING.md, and only if the gate passes.
+`--watch` runs nothing, and ends once no check was seen for so many minutes. `--first-run` runs the
+lines that README.md begins with in place of `rt ci`, so many crates at a time, or with 0 `rt run`
+alone.
+
+A crate has a proof; its tests, which are two checks of a crate of tests; a seed, which is a second
+proof where two edits or more begin with it, and the check at the end that it still holds; and the
+edits themselves. The checker's processes are looked at every two seconds, so what takes less isn't
+seen in a check. It is counted in the whole, which the system knows of a gate that has ended. Memory
+is the most that one check had at a time, with all that it started: where it has several jobs, what
+they share counts for each. Nothing else should run on the machine meanwhile.
 """
 
-import collections
+from __future__ import annotations
+
 import contextlib
 import dataclasses
 import math
 import os
-import pathlib
 import resource
 import shlex
 import subprocess
 import sys
 import tempfile
 import time
+from collections import defaultdict
+from collections.abc import Callable, Iterable, Iterator, Mapping, Sequence
+from pathlib import Path
+from typing import TypeAlias
 
 from rezovamy_runs.command_line import command_line, whole
-
 from workshop import TOP
 
 PAGE = TOP / "docs/PROVING.md"
 BEGIN, END = "<!-- gate_cost begins -->\n", "<!-- gate_cost ends -->\n"
 PROGRAM = "rezovamy"
 KINDS = ("proof", "tests", "seed", "edits")
-# `rt run` begins with it where no library is built: it reads the sources of all crates, and proves nothing.
+# `rt run` begins with it where no library is built: it reads the sources of all crates, and proves
+# nothing.
 QUICK_PASS = "quick pass"
 TICKS = os.sysconf("SC_CLK_TCK")
 PAGE_SIZE = os.sysconf("SC_PAGE_SIZE")
 PAUSE = 2
+
+
+# A check by its crate and its kind, the costs of checks, what each crate uses, and a chain of
+# crates.
+Check: TypeAlias = tuple[str, str]
+Costs: TypeAlias = defaultdict[Check, "Cost"]
+Uses: TypeAlias = dict[str, list[str]]
+Chain: TypeAlias = tuple[float, tuple[str, ...]]
 
 
 # ---- checks
@@ -47,7 +65,9 @@ PAUSE = 2
 
 @dataclasses.dataclass
 class Process:
-    """A process as /proc shows it, with the processor time of those of its children that have ended, and its start since boot."""
+    """A process as /proc shows it, with the processor time of those of its children that have
+    ended, and its start since boot.
+    """
 
     parent: int
     seconds: float
@@ -57,8 +77,9 @@ class Process:
 
 @dataclasses.dataclass
 class Cost:
-    """What checks took: seconds of processor time, the most bytes of one of them, when the first began and the last was seen, and
-    the most bytes of one process."""
+    """What checks took: seconds of processor time, the most bytes of one of them, when the first
+    began and the last was seen, and the most bytes of one process.
+    """
 
     seconds: float = 0
     memory: int = 0
@@ -67,11 +88,11 @@ class Cost:
     process: int = 0
 
     @property
-    def clock(self):
+    def clock(self) -> float:
         """Seconds of wall clock."""
         return max(0, self.ended - self.begun)
 
-    def with_other(self, other):
+    def with_other(self, other: Cost) -> Cost:
         """The cost of both."""
         return Cost(
             self.seconds + other.seconds,
@@ -81,7 +102,7 @@ class Cost:
             max(self.process, other.process),
         )
 
-    def see(self, parts, now):
+    def see(self, parts: Sequence[Process], now: float) -> None:
         """Takes what the processes of one check were seen to have used so far."""
         self.seconds = max(self.seconds, sum(part.seconds for part in parts))
         self.memory = max(self.memory, sum(part.memory for part in parts))
@@ -89,16 +110,13 @@ class Cost:
         self.ended = now
 
 
-def processes():
+def processes() -> dict[int, Process]:
     """All processes by their numbers."""
     found = {}
     for name in filter(str.isdigit, os.listdir("/proc")):
         with contextlib.suppress(OSError):
             fields = (
-                pathlib.Path("/proc", name, "stat")
-                .read_text(errors="replace")
-                .rpartition(")")[2]
-                .split()
+                Path("/proc", name, "stat").read_text(errors="replace").rpartition(")")[2].split()
             )
             seconds = sum(map(int, fields[11:15])) / TICKS
             found[int(name)] = Process(
@@ -107,41 +125,42 @@ def processes():
     return found
 
 
-def words_of(number):
+def words_of(number: int) -> list[str]:
     """The words of a process, none where it has ended."""
     try:
         return (
-            pathlib.Path("/proc", str(number), "cmdline")
-            .read_bytes()
-            .decode(errors="replace")
-            .split("\0")
+            Path("/proc", str(number), "cmdline").read_bytes().decode(errors="replace").split("\0")
         )
     except OSError:
         return []
 
 
-def folder_of(number):
+def folder_of(number: int) -> str:
     try:
         return os.readlink(f"/proc/{number}/cwd")
     except OSError:
         return ""
 
 
-def word_after(words, flag):
+def word_after(words: Sequence[str], flag: str) -> str:
     place = words.index(flag) + 1 if flag in words else len(words)
     return words[place] if place < len(words) else ""
 
 
-def check_of(words, folder):
-    """The crate and the kind of a check, by its words and the folder that it runs in; None of any other process."""
+def check_of(words: Sequence[str], folder: str) -> Check | None:
+    """The crate and the kind of a check, by its words and the folder that it runs in.
+
+    None of any other process.
+    """
     crate = word_after(words, "--crate-name")
     if not crate or os.path.basename(words[0]) != "rattle":
         return None
-    # Seeds and edits run in folders of one kind. What an edit begins with is a copy of the seed, under the edit's number.
-    kept = pathlib.Path(word_after(words, "--incremental"))
+    # Seeds and edits run in folders of one kind. What an edit begins with is a copy of the seed,
+    # under the edit's number.
+    kept = Path(word_after(words, "--incremental"))
     if kept.name == "seed" and kept.parent.name.startswith("rt-edits-"):
         return crate, "seed"
-    if pathlib.Path(folder).name.startswith("rt-edit-"):
+    if Path(folder).name.startswith("rt-edit-"):
         return crate, "edits"
     # It asks for no function.
     if ("--only", "") in zip(words, words[1:]):
@@ -149,7 +168,7 @@ def check_of(words, folder):
     return crate, "tests" if "--test" in words else "proof"
 
 
-def below(found, number):
+def below(found: Mapping[int, Process], number: int) -> list[int]:
     """A process and all that it started."""
     children = [child for child, process in found.items() if process.parent == number]
     return [number] + [each for child in children for each in below(found, child)]
@@ -158,10 +177,10 @@ def below(found, number):
 class Sampler:
     """What the checks below some processes took so far."""
 
-    def __init__(self):
-        self.seen = {}
+    def __init__(self) -> None:
+        self.seen: dict[tuple[Check, int, float], Cost] = {}
 
-    def look(self, found, checks, now):
+    def look(self, found: Mapping[int, Process], checks: Mapping[int, Check], now: float) -> None:
         """Takes what each check that runs has used. One that another has started is part of it."""
         for number, check in checks.items():
             if found[number].parent not in checks:
@@ -170,18 +189,20 @@ class Sampler:
                 cost = self.seen.setdefault((check, number, started), Cost(begun=started))
                 cost.see(parts, now)
 
-    def look_below(self, roots_in):
-        """Looks at the machine, and returns whether a check runs below one of the processes that are chosen."""
+    def look_below(self, roots_in: Callable[[Mapping[int, Process]], Iterable[int]]) -> bool:
+        """Looks at the machine, and returns whether a check runs below one of the processes that
+        are chosen.
+        """
         found = processes()
         numbers = {each for root in roots_in(found) for each in below(found, root)} & found.keys()
-        checks = {number: check_of(words_of(number), folder_of(number)) for number in numbers}
-        checks = {number: check for number, check in checks.items() if check}
+        seen = {number: check_of(words_of(number), folder_of(number)) for number in numbers}
+        checks = {number: check for number, check in seen.items() if check}
         self.look(found, checks, time.clock_gettime(time.CLOCK_BOOTTIME))
         return bool(checks)
 
-    def costs(self):
+    def costs(self) -> Costs:
         """The costs by crate and kind."""
-        found = collections.defaultdict(Cost)
+        found: Costs = defaultdict(Cost)
         for (check, _, _), cost in self.seen.items():
             found[check] = found[check].with_other(cost)
         return found
@@ -192,23 +213,27 @@ class Sampler:
 
 @dataclasses.dataclass
 class Measure:
-    """What one gate took, or several that were watched: these have no status, and of them only the checks are known."""
+    """What one gate took, or several that were watched: these have no status, and of them only the
+    checks are known.
+    """
 
-    costs: dict
+    costs: Costs
     minutes: float
     processors: int
     status: int = 0
     whole: float | None = None
 
 
-def children_seconds():
+def children_seconds() -> float:
     """The processor time of all that this process has started and that has ended."""
     used = resource.getrusage(resource.RUSAGE_CHILDREN)
     return used.ru_utime + used.ru_stime
 
 
-def gate_words():
-    """The words that run a gate from nothing: a kit that keeps what passed has a flag for it, and others never keep anything."""
+def gate_words() -> list[str]:
+    """The words that run a gate from nothing: a kit that keeps what passed has a flag for it, and
+    others never keep anything.
+    """
     told = subprocess.run(
         ["rt", "help"],
         stdin=subprocess.DEVNULL,
@@ -219,7 +244,7 @@ def gate_words():
     return ["rt", "ci", *["--anew"] * ("--anew" in told.stdout)]
 
 
-def run_gate(processors):
+def run_gate(processors: int) -> Measure:
     """Runs the gate on so many processors, by which `rt` chooses how much it does at a time."""
     usable = sorted(os.sched_getaffinity(0))[:processors]
     sampler, started, before = Sampler(), time.monotonic(), children_seconds()
@@ -235,17 +260,22 @@ def run_gate(processors):
     )
 
 
-def run_words(at_a_time, bundle):
-    """The words of the README that prove the crates, so many at a time, and run the program; with 0 `rt run` alone proves one by one."""
+def run_words(at_a_time: int, bundle: str) -> list[str]:
+    """The words of the README that prove the crates, so many at a time, and run the program.
+
+    With 0 `rt run` alone proves one by one.
+    """
     run = f"rt run -- record {shlex.quote(bundle)}"
     return ["sh", "-c", f"rt all check --jobs {at_a_time} && {run}" if at_a_time else run]
 
 
-def first_run(at_a_time):
-    """Runs the program for the first time in a fresh clone, whose crates are proved so many at a time; with 0 by `rt run` alone."""
+def first_run(at_a_time: int) -> Measure:
+    """Runs the program for the first time in a fresh clone, whose crates are proved so many at a
+    time; with 0 by `rt run` alone.
+    """
     with tempfile.TemporaryDirectory(prefix="first-run-") as room:
         subprocess.run(["git", "clone", "--quiet", str(TOP), f"{room}/clone"], check=True)
-        folder = pathlib.Path(room, "clone/crates", PROGRAM)
+        folder = Path(room, "clone/crates", PROGRAM)
         sampler, started, before = Sampler(), time.monotonic(), children_seconds()
         with open(folder / "data/example.session", "rb") as session:
             run = subprocess.Popen(
@@ -267,22 +297,30 @@ def first_run(at_a_time):
         )
 
 
-def first_lines(measure):
-    """What a first run took, a line for each crate that was proved, in the order in which they began."""
+def first_lines(measure: Measure) -> Iterator[str]:
+    """What a first run took, a line for each crate that was proved, in the order in which they
+    began.
+    """
     for (crate, kind), cost in sorted(measure.costs.items(), key=lambda item: item[1].begun):
         name = f"`{crate}`" if kind == "proof" else f"the {kind}"
-        yield f"{name}: {cost.seconds / 60:.1f} processor minutes, {cost.clock / 60:.1f} of wall clock, {cost.memory / 1e9:.1f} GB"
-    yield f"{measure.whole / 60:.0f} processor minutes, {measure.minutes:.0f} of wall clock on {measure.processors} processors"
+        minutes = f"{cost.seconds / 60:.1f} processor minutes, {cost.clock / 60:.1f} of wall clock"
+        yield f"{name}: {minutes}, {cost.memory / 1e9:.1f} GB"
+    yield (
+        f"{(measure.whole or 0) / 60:.0f} processor minutes, {measure.minutes:.0f} of wall clock "
+        f"on {measure.processors} processors"
+    )
 
 
-def is_gate(words):
+def is_gate(words: Sequence[str]) -> bool:
     return any(
         os.path.basename(word) == "rt" and after == "ci" for word, after in zip(words, words[1:])
     )
 
 
-def watch(minutes):
-    """Measures the gates on the machine, until none had a check for so many minutes, or until it is interrupted."""
+def watch(minutes: int) -> Measure:
+    """Measures the gates on the machine, until none had a check for so many minutes, or until it is
+    interrupted.
+    """
     sampler, seen = Sampler(), time.monotonic()
     with contextlib.suppress(KeyboardInterrupt):
         while time.monotonic() - seen < 60 * minutes:
@@ -301,15 +339,20 @@ def watch(minutes):
 # ---- the table
 
 
-def crates(text):
-    """The crates of a crates.txt and those that they stand on, in its order, which has the lowest first."""
+def crates(text: str) -> Uses:
+    """The crates of a crates.txt and those that they stand on, in its order, which has the lowest
+    first.
+    """
     parted = [line.split(":") for line in text.splitlines() if line and not line.startswith("#")]
     return {name.split()[0]: used.split() for name, used in parted}
 
 
-def longest_chain(uses, length):
-    """The length and the crates of the longest chain of proofs, each after those below it, that ends with a proof or with tests."""
-    proofs, ends = {}, []
+def longest_chain(uses: Uses, length: Callable[[str, str], float]) -> Chain:
+    """The length and the crates of the longest chain of proofs, each after those below it, that
+    ends with a proof or with tests.
+    """
+    proofs: dict[str, Chain] = {}
+    ends: list[Chain] = []
     for crate, used in uses.items():
         before, names = max(
             (proofs[name] for name in used if name in proofs),
@@ -322,12 +365,12 @@ def longest_chain(uses, length):
     return max(ends, key=lambda end: end[0])
 
 
-def stands_on(uses, crate):
+def stands_on(uses: Uses, crate: str) -> set[str]:
     """A crate and all crates below it."""
     return {crate}.union(*(stands_on(uses, name) for name in uses[crate] if name in uses))
 
 
-def row_costs(costs, crate):
+def row_costs(costs: Costs, crate: str) -> dict[str, Cost]:
     """The costs of a crate's row by their kinds: its tests are the checks of its crate of tests."""
     found = {kind: costs[crate, kind] for kind in KINDS}
     for kind in ("proof", "tests"):
@@ -335,7 +378,7 @@ def row_costs(costs, crate):
     return found
 
 
-def cells(costs):
+def cells(costs: Mapping[str, Cost]) -> str:
     """Minutes, and then gigabytes, of each kind."""
     shown = [f"{costs[kind].seconds / 60:.1f}" if costs[kind].seconds else "-" for kind in KINDS]
     return " | ".join(
@@ -343,11 +386,14 @@ def cells(costs):
     )
 
 
-def table(measure, uses):
+def table(measure: Measure, uses: Uses) -> str:
     """The measure as a page has it."""
     rows = {name: row_costs(measure.costs, name) for name in uses if not name.endswith("_tests")}
     lines = [
-        "| Crate | Proof | Its tests | Seed | Its edits | GB of the proof | of tests | of the seed | of edits |",
+        (
+            "| Crate | Proof | Its tests | Seed | Its edits | GB of the proof | of tests | of the "
+            "seed | of edits |"
+        ),
         "|---|---|---|---|---|---|---|---|---|",
         *(f"| `{crate}` | {cells(costs)} |" for crate, costs in rows.items()),
     ]
@@ -359,31 +405,41 @@ def table(measure, uses):
     )
 
 
-def sentences(measure, uses, together):
+def sentences(measure: Measure, uses: Uses, together: Mapping[str, Cost]) -> Iterator[str]:
     """What is said below the table, a sentence a line."""
     seen = sum(cost.seconds for cost in together.values())
     taken = seen if measure.whole is None else measure.whole
-    yield f"{taken / 60:.0f} processor minutes, {measure.minutes:.0f} minutes of wall clock on {measure.processors} processors."
-    units = [("seconds", "processor minutes")]
+    yield (
+        f"{taken / 60:.0f} processor minutes, {measure.minutes:.0f} minutes of wall clock "
+        f"on {measure.processors} processors."
+    )
+    units: list[tuple[Callable[[Cost], float], str]] = [
+        (lambda cost: cost.seconds, "processor minutes")
+    ]
     if measure.whole is not None:
         # Of several gates a crate's checks lie apart, so the time between them would count too.
-        units.append(("clock", "minutes of wall clock"))
-    for what, unit in units:
-        length, names = longest_chain(
-            uses, lambda crate, kind: getattr(measure.costs[crate, kind], what)
-        )
-        yield f"The longest chain in {unit}, {length / 60:.0f}, is {', '.join(f'`{name}`' for name in names)}."
+        units.append((lambda cost: cost.clock, "minutes of wall clock"))
+    for of, unit in units:
+        length, names = longest_chain(uses, lambda crate, kind: of(measure.costs[crate, kind]))
+        chain = ", ".join(f"`{name}`" for name in names)
+        yield f"The longest chain in {unit}, {length / 60:.0f}, is {chain}."
     if PROGRAM in uses:
         first = stands_on(uses, PROGRAM)
         needed = sum(measure.costs[crate, "proof"].seconds for crate in first)
-        yield f"The first `rt run` in `{PROGRAM}` proves {len(first)} crates, which is {needed / 60:.0f} processor minutes of these."
-    yield f"No process had more than {max(cost.process for cost in together.values()) / 1e9:.1f} GB."
+        yield (
+            f"The first `rt run` in `{PROGRAM}` proves {len(first)} crates, "
+            f"which is {needed / 60:.0f} processor minutes of these."
+        )
+    most = max(cost.process for cost in together.values())
+    yield f"No process had more than {most / 1e9:.1f} GB."
     if measure.whole is not None:
-        rest = (taken - seen) / 60
-        yield f"{rest:.1f} processor minutes were seen in no check: `rt` itself, linking, runs, and the last moments of each check."
+        yield (
+            f"{(taken - seen) / 60:.1f} processor minutes were seen in no check: `rt` itself, "
+            "linking, runs, and the last moments of each check."
+        )
 
 
-def main():
+def main() -> None:
     parser = command_line(__doc__)
     most = len(os.sched_getaffinity(0))
     parser.add_argument(
@@ -409,7 +465,8 @@ def main():
     asked = parser.parse_args()
     if asked.watch and asked.write:
         parser.error(
-            "of gates that are watched it isn't known whether they pass, so --write doesn't go with --watch"
+            "of gates that are watched it isn't known whether they pass, so --write doesn't go "
+            "with --watch"
         )
     if asked.first_run is not None:
         if asked.watch or asked.write or asked.processors != most:

@@ -1,4 +1,3 @@
-#!/usr/bin/env python3
 """Prints a session with events of every kind, for trying things out.
 
     python3 -m workshop.make_kinds > kinds.session
@@ -10,8 +9,16 @@ ten seconds. The second run is cancelled. With `--least` each member that may be
 out.
 """
 
+from __future__ import annotations
+
+from collections.abc import Iterator, Sequence
+from typing import TypeAlias
+
 from rezovamy_runs.command_line import command_line
 from rezovamy_runs.streams.session_json import RUN_ID, event, head, instant, span, stats, text
+
+# An object of JSON.
+Json: TypeAlias = dict[str, object]
 
 START = 1000
 BINARY = "alpha::a"
@@ -21,11 +28,11 @@ TESTS = ["cannot_start", "flaky", "ignored", "slow"]
 class Option:
     """A value that may be left out."""
 
-    def __init__(self, value):
+    def __init__(self, value: object) -> None:
         self.value = value
 
 
-def settled(value, least):
+def settled(value: object, least: bool) -> object:
     """The value with what may be left out, or without it."""
     if isinstance(value, Option):
         return settled(value.value, least)
@@ -37,16 +44,16 @@ def settled(value, least):
     return value
 
 
-def at(kind, second, **fields):
+def at(kind: str, second: int, **fields: object) -> Json:
     """An event so many seconds after the start of the run."""
     return event(kind, instant(START + second), elapsed=span(second), **fields)
 
 
-def test_id(name):
+def test_id(name: str) -> Json:
     return {"binary-id": BINARY, "test-name": name}
 
 
-def counts(reason=None, **changed):
+def counts(reason: str | None = None, **changed: int) -> Json:
     """The counts of a run of three tests after its script, with what has changed since."""
     changed = {name.replace("_", "-"): count for name, count in changed.items()}
     cancel = {"cancel-reason": Option(reason)} if reason else {}
@@ -55,41 +62,48 @@ def counts(reason=None, **changed):
     return {**stats(3), **ended, **changed, **cancel}
 
 
-def stress_index(run):
+def stress_index(run: int) -> Option:
     return Option({"current": run, "total": Option(2)})
 
 
-def progress(run, second, completed):
+def progress(run: int, second: int, completed: int) -> Json:
     return {"count": {"total": Option(2), "elapsed": span(second), "completed": completed}}
 
 
-def slot(number):
+def slot(number: int) -> Json:
     return {"global-slot": number, "group-slot": Option(number), "test-group": "serial"}
 
 
-def retry(attempt, total):
+def retry(attempt: int, total: int) -> Json:
     return {"attempt": attempt, "total-attempts": total}
 
 
-def summary(short):
+def summary(short: str) -> Option:
     return Option({"short-message": short, "description": f"{short}, and why"})
 
 
-def output(outputs):
+def output(outputs: Json) -> Json:
     """Outputs of a process, with what was read of them too late."""
     return {"output": {"result": Option("pass"), "output": outputs, "errors": Option(["late"])}}
 
 
-def split(stdout, stderr):
+def split(stdout: str, stderr: str) -> Json:
     texts = {"stdout": stdout, "stderr": stderr}
     return {"split": {name: Option(written.encode().hex()) for name, written in texts.items()}}
 
 
-def combined(both):
+def combined(both: str) -> Json:
     return {"combined": both.encode().hex()}
 
 
-def attempt(second, taken, tried, outputs, result, **further):
+def attempt(
+    second: int,
+    taken: int,
+    tried: tuple[int, int],
+    outputs: Json,
+    result: object,
+    **further: object,
+) -> Json:
     """An attempt that began at a second, and `tried` says which one of how many it is."""
     further = {name.replace("_", "-"): value for name, value in further.items()}
     return {
@@ -104,7 +118,7 @@ def attempt(second, taken, tried, outputs, result, **further):
     }
 
 
-def setup_script(run, base):
+def setup_script(run: int, base: int) -> Iterator[Json]:
     """The setup script, which takes twenty-five seconds."""
     script = {"script_id": "database", "program": "sh", "args": ["-c", "start"]}
     place = {"stress_index": stress_index(run), "index": 0, "total": 1}
@@ -127,16 +141,11 @@ def setup_script(run, base):
         will_terminate=False,
     )
     yield at(
-        "setup-script-finished",
-        base + 25,
-        **place,
-        **script,
-        no_capture=False,
-        run_status=status,
+        "setup-script-finished", base + 25, **place, **script, no_capture=False, run_status=status
     )
 
 
-def started(run, second, name, number, stats_now, running):
+def started(run: int, second: int, name: str, number: int, stats_now: Json, running: int) -> Json:
     return at(
         "test-started",
         second,
@@ -149,7 +158,9 @@ def started(run, second, name, number, stats_now, running):
     )
 
 
-def finished(run, second, name, statuses, stats_now, running):
+def finished(
+    run: int, second: int, name: str, statuses: Sequence[Json], stats_now: Json, running: int
+) -> Json:
     return at(
         "test-finished",
         second,
@@ -166,7 +177,7 @@ def finished(run, second, name, statuses, stats_now, running):
     )
 
 
-def failed_attempt(base):
+def failed_attempt(base: int) -> Json:
     """The first attempt of the flaky test: fourteen seconds long, ten of them paused."""
     failure = {"abort": {"signal": 6, "name": Option("SIGABRT")}}
     return attempt(
@@ -181,16 +192,11 @@ def failed_attempt(base):
     )
 
 
-def flaky_test(run, base):
+def flaky_test(run: int, base: int) -> Iterator[Json]:
     """The failure of the flaky test, and how it passes."""
     first = failed_attempt(base)
     second = attempt(
-        base + 41,
-        4,
-        (2, 2),
-        output(split("passed\n", "")),
-        "pass",
-        delay_before_start=span(1),
+        base + 41, 4, (2, 2), output(split("passed\n", "")), "pass", delay_before_start=span(1)
     )
     yield at(
         "test-attempt-failed-will-retry",
@@ -216,13 +222,13 @@ def flaky_test(run, base):
     yield finished(run, base + 45, "flaky", [first, second], now, 1)
 
 
-def pause(base):
+def pause(base: int) -> Iterator[Json]:
     """Ten seconds in which nothing runs."""
     yield at("run-paused", base + 28, setup_scripts_running=0, running=2)
     yield at("run-continued", base + 38, setup_scripts_running=0, running=2)
 
 
-def start_fault(run, base):
+def start_fault(run: int, base: int) -> Iterator[Json]:
     """The test that can't be started, on the slot of the flaky one."""
     before = counts(finished_count=1, passed=1, flaky=1, skipped=1)
     after = counts(finished_count=2, passed=1, flaky=1, exec_failed=1, skipped=1)
@@ -231,7 +237,7 @@ def start_fault(run, base):
     yield finished(run, base + 47, "cannot_start", [tried], after, 1)
 
 
-def slow_test(run, base, cancelled):
+def slow_test(run: int, base: int, cancelled: bool) -> Iterator[Json]:
     """The slow test, which still runs when the second run is cancelled."""
     yield at(
         "test-slow",
@@ -244,24 +250,15 @@ def slow_test(run, base, cancelled):
     )
     if cancelled:
         yield at(
-            "run-begin-cancel",
-            base + 51,
-            setup_scripts_running=0,
-            running=1,
-            reason="interrupt",
+            "run-begin-cancel", base + 51, setup_scripts_running=0, running=1, reason="interrupt"
         )
     tried = attempt(
-        base + 26,
-        16,
-        (1, 1),
-        output(split("slow\n", "")),
-        {"timeout": "pass"},
-        is_slow=True,
+        base + 26, 16, (1, 1), output(split("slow\n", "")), {"timeout": "pass"}, is_slow=True
     )
     yield finished(run, base + 52, "slow", [tried], at_end(cancelled), 0)
 
 
-def at_end(cancelled):
+def at_end(cancelled: bool) -> Json:
     """The counts of a run of the stress run at its end."""
     return counts(
         "interrupt" if cancelled else None,
@@ -275,7 +272,7 @@ def at_end(cancelled):
     )
 
 
-def sub_run(run):
+def sub_run(run: int) -> Iterator[Json]:
     """One of the stress run's runs."""
     base = 1 + 100 * run
     cancelled = run == 1
@@ -304,7 +301,7 @@ def sub_run(run):
     )
 
 
-def session():
+def session() -> Iterator[Json]:
     suites = {"suites": {BINARY: TESTS}}
     yield {**head(0), "last-written-at": instant(START + 155), "test-list": suites}
     yield at(
@@ -334,7 +331,7 @@ def session():
     )
 
 
-def main():
+def main() -> None:
     parser = command_line(__doc__)
     parser.add_argument("--least", action="store_true", help="leave out what may be left out")
     words = parser.parse_args()

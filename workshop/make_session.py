@@ -1,4 +1,3 @@
-#!/usr/bin/env python3
 """Prints a session of a number of tests, for trying things out and for measuring.
 
     python3 -m workshop.make_session 10000 > large.session
@@ -7,24 +6,33 @@
     python3 -m workshop.make_session 10000 --binaries 10000 > binaries.session
     python3 -m workshop.make_session 100000 --slots 100000 --ends > at_once.session
 
-Test i is `t{i}` of the binary `bin-{i mod 4}`, or `bin-{i mod N}` with `--binaries N`, on slot i mod 8. Eight tests run at a
-time, or N with `--slots N`, in batches four seconds apart, and every hundredth one fails. Each test writes one of sixteen lines
-on standard output; with `--distinct N` it writes N bytes of its own, on standard output and again on standard error. The
-session stops before the end of the run, but for `--ends`.
+Test i is `t{i}` of the binary `bin-{i mod 4}`, or `bin-{i mod N}` with `--binaries N`, on slot i
+mod 8. Eight tests run at a time, or N with `--slots N`, in batches four seconds apart, and every
+hundredth one fails. Each test writes one of sixteen lines on standard output; with `--distinct N`
+it writes N bytes of its own, on standard output and again on standard error. The session stops
+before the end of the run, but for `--ends`.
 """
+
+from __future__ import annotations
+
+from collections.abc import Iterator
+from typing import TypeAlias
 
 from rezovamy_runs.command_line import command_line, whole
 from rezovamy_runs.streams.session_json import RUN_ID, event, head, instant, span, stats, text
+
+# An object of JSON.
+Json: TypeAlias = dict[str, object]
 
 SLOTS = 8
 MOST = 10**9
 
 
-def test_id(i, binaries):
+def test_id(i: int, binaries: int) -> Json:
     return {"binary-id": f"bin-{i % binaries}", "test-name": f"t{i}"}
 
 
-def started(i, batch, count, running, binaries, slots):
+def started(i: int, batch: int, count: int, running: int, binaries: int, slots: int) -> Json:
     return event(
         "test-started",
         instant(1000 + 4 * batch, 1000 * (i % slots)),
@@ -36,7 +44,7 @@ def started(i, batch, count, running, binaries, slots):
     )
 
 
-def outputs(i, distinct):
+def outputs(i: int, distinct: int | None) -> Json:
     """The outputs of a test, as they were captured."""
     if distinct is None:
         return {"stdout": f"output {i % 16}\n".encode().hex()}
@@ -46,7 +54,9 @@ def outputs(i, distinct):
     }
 
 
-def finished(i, batch, count, running, binaries, distinct, slots):
+def finished(
+    i: int, batch: int, count: int, running: int, binaries: int, distinct: int | None, slots: int
+) -> Json:
     failed = i % 100 == 99
     result = {"fail": {"failure": {"exit-code": 1}, "leaked": False}} if failed else "pass"
     status = {
@@ -73,7 +83,7 @@ def finished(i, batch, count, running, binaries, distinct, slots):
     )
 
 
-def session(count, binaries, distinct, slots=SLOTS):
+def session(count: int, binaries: int, distinct: int | None, slots: int = SLOTS) -> Iterator[Json]:
     yield head(count, binaries)
     yield event("run-started", instant(1000), run_id=RUN_ID, profile_name="default", cli_args=[])
     for batch in range((count + slots - 1) // slots):
@@ -84,7 +94,7 @@ def session(count, binaries, distinct, slots=SLOTS):
             yield finished(i, batch, count, len(tests) - place - 1, binaries, distinct, slots)
 
 
-def run_end(count, slots):
+def run_end(count: int, slots: int) -> Json:
     """The end of the run, a second after that of its last test."""
     seconds = 4 * ((count + slots - 1) // slots) + 1
     return event(
@@ -98,7 +108,7 @@ def run_end(count, slots):
     )
 
 
-def main():
+def main() -> None:
     parser = command_line(__doc__)
     parser.add_argument("count", type=whole(0, MOST), help="how many tests")
     parser.add_argument(

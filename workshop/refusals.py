@@ -1,11 +1,16 @@
-"""Edits by which `record` gives one refusal always: a session that was judged is refused all the same.
+"""Edits by which `record` gives one refusal always: a session that was judged is refused all the
+same.
 
-One is made for each variant of `RecordExportError` that has no edit `always_..` of its own. Want of memory has none: it may
-always come.
+One is made for each variant of `RecordExportError` that has no edit `always_..` of its own. Want of
+memory has none: it may always come.
 """
+
+from __future__ import annotations
 
 import itertools
 import re
+from collections.abc import Iterator, Sequence, Set
+from pathlib import Path
 
 CRATE = "rec_export"
 ENUM_FILE = "rec_errors/src/export_error.rt"
@@ -22,14 +27,17 @@ VALUES = {
     "SpanKey": ("rec_trace::SpanKey::Run",),
 }
 JUDGED = "    let prepared = prepare(alloc, settings, namer, session)?;"
-EDIT = "file: src/export.rt\nold: {judged}\nnew: {judged} if prepared.exported.events < u64::MAX {{ return Err({refusal}); }}\n"
+EDIT = (
+    "file: src/export.rt\nold: {judged}\nnew: {judged} if prepared.exported.events < u64::MAX {{ "
+    "return Err({refusal}); }}\n"
+)
 
 
 class Unknown(Exception):
     """What the sources have that isn't known here."""
 
 
-def variants(text):
+def variants(text: str) -> dict[str, list[tuple[str, str]]]:
     """The variants of the enum in a text, each with its fields and their types."""
     body = re.search(rf"^pub enum {ENUM} {{\n(.*?)^}}", text, re.M | re.S)
     if body is None:
@@ -38,7 +46,7 @@ def variants(text):
     return {name: re.findall(r"^        (\w+): (.+),$", fields, re.M) for name, fields in found}
 
 
-def literals(name, fields):
+def literals(name: str, fields: Sequence[tuple[str, str]]) -> Iterator[str]:
     """A value of a variant, for each choice of its fields' values."""
     unknown = [kind for _, kind in fields if kind not in VALUES]
     if unknown:
@@ -48,11 +56,11 @@ def literals(name, fields):
         yield f"{ENUM}::{name} {{ {named} }}" if named else f"{ENUM}::{name}"
 
 
-def snake(name):
+def snake(name: str) -> str:
     return re.sub(r"(?<!^)(?=[A-Z])", "_", name).lower()
 
 
-def edits(text, edited):
+def edits(text: str, edited: Set[str]) -> dict[str, str]:
     """The edits by their names, where these variants have one already."""
     found = {}
     for name, fields in variants(text).items():
@@ -65,7 +73,7 @@ def edits(text, edited):
     return found
 
 
-def edited(folder):
+def edited(folder: Path) -> set[str]:
     """The variants of which a folder, or one in it, has an edit."""
     return {
         name

@@ -1,35 +1,40 @@
-#!/usr/bin/env python3
 """Refuses each allocation, read and write of each command in turn, and says what each left.
 
-    (cd crates/rezovamy && rt run -- record /tmp/example.bundle < data/example.session > /tmp/example.trace.json)
-    python3 -m workshop.sweep [--only WORD] [--from N] [--to N] [--kept FILE] crates/rezovamy/out/rezovamy
+    python3 -m workshop.sweep [--only WORD] [--from N] [--to N] [--kept FILE] PROGRAM
 
-It runs the built program: `record` on the session that ships with the repository, on one with a cut output and on one with
-each kind of event, in each form of the trace; the commands that read a bundle, those that write another one among them, on the
-bundles that these gave, in each form; `sample`, `--help` and `--version`. Each run is that of a traced child whose calls of the C
-library are counted, and one of them is refused. Each is held to what a refusal has to leave; the first that leaves anything else
-ends the sweep with status 1.
+PROGRAM is `crates/rezovamy/out/rezovamy`, which README.md says how to build.
 
-The whole sweep takes long. `--only` takes the runs that have this word in their names, and `--from` and `--to` the calls of these
-numbers, counted from 1 for allocations, reads and writes each. Into the file of `--kept` each call that was refused is written,
-and those that stand there are not refused again, so a sweep that was stopped goes on with the same words. It is of one
-program, and another one is refused. Linux on x86-64 is needed.
+It runs the built program: `record` on the session that ships with the repository, on one with a cut
+output and on one with each kind of event, in each form of the trace; the commands that read a
+bundle, those that write another one among them, on the bundles that these gave, in each form;
+`sample`, `--help` and `--version`. Each run is that of a traced child whose calls of the C library
+are counted, and one of them is refused. Each is held to what a refusal has to leave; the first that
+leaves anything else ends the sweep with status 1.
+
+The whole sweep takes long. `--only` takes the runs that have this word in their names, and `--from`
+and `--to` the calls of these numbers, counted from 1 for allocations, reads and writes each. Into
+the file of `--kept` each call that was refused is written, and those that stand there are not
+refused again, so a sweep that was stopped goes on with the same words. It is of one program, and
+another one is refused. Linux on x86-64 is needed.
 """
 
-import collections
+from __future__ import annotations
+
+import dataclasses
 import hashlib
 import json
 import os
-import pathlib
 import subprocess
 import sys
 import tempfile
+from collections.abc import Iterator, Mapping, Sequence
+from pathlib import Path
+from typing import NamedTuple, TextIO
 
-from rezovamy_runs.command_line import command_line, demand_program, whole
 from rezovamy_runs.bundles.container import entry
-from workshop.tracing import run_refusing
-
+from rezovamy_runs.command_line import command_line, demand_program, whole
 from workshop import TOP
+from workshop.tracing import Call, run_refusing
 
 OLD = b"an older file"
 MANIFEST = b"manifest.json"
@@ -37,14 +42,14 @@ KINDS = ("allocation", "read", "write")
 MOST = 10**9
 
 # What stands after a command that draws a trace, and the name of this form.
-FORMS = [
+FORMS: list[tuple[str, tuple[str, ...]]] = [
     ("", ()),
     (" pretty", ("--message-format", "json-pretty")),
     (" by slot", ("--group-by", "slot")),
     (" by slot, pretty", ("--group-by", "slot", "--message-format", "json-pretty")),
 ]
 # The commands that read a bundle and draw no trace, and how what they print begins.
-OTHERS = [
+OTHERS: list[tuple[str, tuple[str, ...], bytes]] = [
     ("info", (), b'{"format-version":'),
     ("replay", (), b"header 550e8400-"),
     ("replay", ("--output", "skip"), b"header 550e8400-"),
@@ -53,25 +58,51 @@ OTHERS = [
     ("rerun", (), b'{"parent-run-id":'),
 ]
 
-Run = collections.namedtuple("Run", "status bundle out line calls")
-# Words with their standard input, and the lines where standard output, the file and standard input fail.
-Target = collections.namedtuple(
-    "Target",
-    "name words source fault unwritten unread",
-    defaults=(b"BundleFault\n", b"SourceFault\n"),
-)
+
+class Left(NamedTuple):
+    """What a run ended with, left at `bundle`, printed and reported."""
+
+    status: int
+    bundle: bytes
+    out: bytes
+    line: bytes
+
+
+@dataclasses.dataclass(frozen=True)
+class Run:
+    """A run: what it left, and how often each call came."""
+
+    left: Left
+    calls: Mapping[str, int]
+
+
+@dataclasses.dataclass(frozen=True)
+class Target:
+    """Words with their standard input, and the lines where the outside fails.
+
+    These are the lines for standard output, for the file and for standard input.
+    """
+
+    name: str
+    words: Sequence[str]
+    source: bytes
+    fault: bytes
+    unwritten: bytes = b"BundleFault\n"
+    unread: bytes = b"SourceFault\n"
 
 
 class Sweep:
     """Runs of the program in a folder."""
 
-    def __init__(self, program, folder):
+    def __init__(self, program: str, folder: Path) -> None:
         self.program = program
         self.folder = folder
         os.chdir(folder)
 
-    def run(self, words, source, refused=None):
-        """What a run ended with, left at `bundle`, printed and reported, and how often each call came."""
+    def run(self, words: Sequence[str], source: bytes, refused: Call | None = None) -> Run:
+        """What a run ended with, left at `bundle`, printed and reported, and how often each call
+        came.
+        """
         paths = {name: self.folder / name for name in ("bundle", "source", "out", "diag")}
         paths["bundle"].write_bytes(OLD)
         paths["source"].write_bytes(source)
@@ -81,30 +112,39 @@ class Sweep:
         left = {path.name for path in self.folder.iterdir()}
         demand(left == set(paths), f"{words[0]}: it leaves the files {sorted(left - set(paths))}")
         demand(paths["source"].read_bytes() == source, f"{words[0]}: it changes what it reads")
-        return Run(status, *(paths[name].read_bytes() for name in ("bundle", "out", "diag")), calls)
+        bundle, out, line = (paths[name].read_bytes() for name in ("bundle", "out", "diag"))
+        return Run(Left(status, bundle, out, line), calls)
 
-    def sound(self, words, source):
-        """A run of which nothing is refused."""
+    def whole(self, words: Sequence[str], source: bytes) -> Run:
+        """Run the program without refusing anything."""
         run = self.run(words, source)
         demand(
-            (run.status, run.line) == (0, b""),
-            f"{words}: the run itself ends with {run.status} {run.line}",
+            (run.left.status, run.left.line) == (0, b""),
+            f"{words}: the run itself ends with {run.left.status} {run.left.line!r}",
         )
         return run
 
+    def sound(self, words: Sequence[str], source: bytes) -> Left:
+        """Return what is left of a run of which nothing is refused."""
+        return self.whole(words, source).left
+
 
 class Kept:
-    """The calls that were refused, and whether the run did with less; in a file, where one is named."""
+    """The calls that were refused, and whether the run did with less.
 
-    def __init__(self, path, program):
-        self.calls, self.file = {}, None
+    In a file, where one is named.
+    """
+
+    def __init__(self, path: str | None, program: str) -> None:
+        self.calls: dict[tuple[str, str, int], bool] = {}
+        self.file: TextIO | None = None
         if path is None:
             return
         self.file = open(path, "a+", encoding="utf-8")
         self.file.seek(0)
         text = self.file.read()
         first, *lines = text.splitlines() or [""]
-        of = hashlib.sha256(pathlib.Path(program).read_bytes()).hexdigest()
+        of = hashlib.sha256(Path(program).read_bytes()).hexdigest()
         demand(first in ("", of), f"{path} is of another program")
         if not first:
             self.write(of)
@@ -117,30 +157,32 @@ class Kept:
         ):
             self.calls[name, kind, int(number)] = less == "less"
 
-    def write(self, line):
+    def write(self, line: str) -> None:
         if self.file is not None:
             self.file.write(f"{line}\n")
             self.file.flush()
 
-    def add(self, name, kind, number, less):
+    def add(self, name: str, kind: str, number: int, less: bool) -> None:
         self.calls[name, kind, number] = less
         self.write(f"{name}\t{kind}\t{number}\t{'less' if less else 'refused'}")
 
-    def counts(self, name, kind):
+    def counts(self, name: str, kind: str) -> tuple[int, int]:
         """How many calls were refused, and how many of these runs did with less."""
         found = [less for (of, sort, _), less in self.calls.items() if (of, sort) == (name, kind)]
         return len(found), sum(found)
 
 
-def demand(condition, what):
+def demand(condition: bool, what: str) -> None:
     if not condition:
         sys.exit(f"FAULT: {what}")
 
 
-def judge_memory(target, run, whole_run, number):
-    """Holds a run without an allocation to what it must leave, and returns whether it did with less."""
+def judge_memory(target: Target, run: Left, whole_run: Left, number: int) -> bool:
+    """Holds a run without an allocation to what it must leave, and returns whether it did with
+    less.
+    """
     # A growth that was refused is tried once more with what is needed at least.
-    if run[:4] == whole_run[:4]:
+    if run == whole_run:
         return True
     # `sample` may want memory for its line when its bundle is written.
     bundles = (OLD, whole_run.bundle) if target.words[0] == "sample" else (OLD,)
@@ -151,26 +193,29 @@ def judge_memory(target, run, whole_run, number):
     )
     demand(
         run.line in (b"AllocError\n", b"OutOfMemory\n"),
-        f"{target.name}: allocation {number} is reported as {run.line}",
+        f"{target.name}: allocation {number} is reported as {run.line!r}",
     )
     return False
 
 
-def judge_read(target, run, whole_run, number):
+def judge_read(target: Target, run: Left, whole_run: Left, number: int) -> bool:
     demand(
         (run.status, run.line) == (3, target.unread),
-        f"{target.name}: read {number} gives {run.status} {run.line}",
+        f"{target.name}: read {number} gives {run.status} {run.line!r}",
     )
     demand(run.bundle == OLD and run.out == b"", f"{target.name}: read {number} changes a sink")
     return False
 
 
-def judge_write(target, run, whole_run, number):
-    """Holds a run without a write to its prefixes. Where the file at `bundle` is whole, standard output failed."""
+def judge_write(target: Target, run: Left, whole_run: Left, number: int) -> bool:
+    """Holds a run without a write to its prefixes.
+
+    Where the file at `bundle` is whole, standard output failed.
+    """
     said = f"{target.name}: write {number}"
     if run.bundle == whole_run.bundle:
         demand(
-            (run.status, run.line) == (11, target.fault), f"{said} gives {run.status} {run.line}"
+            (run.status, run.line) == (11, target.fault), f"{said} gives {run.status} {run.line!r}"
         )
         demand(
             is_proper_prefix(run.out, whole_run.out), f"{said} leaves no prefix of what is printed"
@@ -178,7 +223,7 @@ def judge_write(target, run, whole_run, number):
     else:
         demand(
             (run.status, run.line) == (10, target.unwritten),
-            f"{said} gives {run.status} {run.line}",
+            f"{said} gives {run.status} {run.line!r}",
         )
         demand(
             is_proper_prefix(run.bundle, whole_run.bundle) and run.out == b"",
@@ -187,31 +232,35 @@ def judge_write(target, run, whole_run, number):
     return False
 
 
-JUDGES = dict(zip(KINDS, (judge_memory, judge_read, judge_write)))
+JUDGES = {"allocation": judge_memory, "read": judge_read, "write": judge_write}
 
 
-def is_proper_prefix(part, whole_text):
+def is_proper_prefix(part: bytes, whole_text: bytes) -> bool:
     return whole_text.startswith(part) and part != whole_text
 
 
-def sweep(tool, kept, target, first, last):
-    """Refuses the calls of these numbers that weren't refused yet, and prints how many were refused so far."""
-    whole_run = tool.sound(target.words, target.source)
+def sweep(tool: Sweep, kept: Kept, target: Target, first: int, last: int) -> None:
+    """Refuses the calls of these numbers that weren't refused yet, and prints how many were refused
+    so far.
+    """
+    whole_run = tool.whole(target.words, target.source)
     for kind in KINDS:
         for number in range(first, min(last, whole_run.calls[kind]) + 1):
             if (target.name, kind, number) not in kept.calls:
                 run = tool.run(target.words, target.source, (kind, number))
-                kept.add(target.name, kind, number, JUDGES[kind](target, run, whole_run, number))
-    (memory, less), (reads, _), (writes, _) = (kept.counts(target.name, kind) for kind in KINDS)
+                less = JUDGES[kind](target, run.left, whole_run.left, number)
+                kept.add(target.name, kind, number, less)
+    (memory, smaller), (reads, _), (writes, _) = (kept.counts(target.name, kind) for kind in KINDS)
     calls = whole_run.calls
     print(
-        f"{target.name}: {memory} of {calls['allocation']} allocations ({less} done with less), {reads} of {calls['read']} "
-        f"reads and {writes} of {calls['write']} writes refused in turn",
+        f"{target.name}: {memory} of {calls['allocation']} allocations ({smaller} done with less), "
+        f"{reads} of {calls['read']} reads and {writes} of {calls['write']} writes "
+        "refused in turn",
         flush=True,
     )
 
 
-def targets_of(tool, name, session, options):
+def targets_of(tool: Sweep, name: str, session: bytes, options: Sequence[str]) -> Iterator[Target]:
     """`record` on a session in each form, and the commands that read its bundle."""
     plain = tool.sound(["record", "bundle", *options], session)
     demand(json.loads(plain.out)["traceEvents"] != [], f"{name}: the run itself draws nothing")
@@ -234,7 +283,7 @@ def targets_of(tool, name, session, options):
         shown = tool.sound([command, *words], plain.bundle)
         demand(
             shown.out.startswith(begin) and shown.bundle == OLD,
-            f"{name}: {command} prints {shown.out}",
+            f"{name}: {command} prints {shown.out!r}",
         )
         demand(
             command != "info" or shown.out == entry(plain.bundle, MANIFEST) + b"\n",
@@ -249,7 +298,7 @@ def targets_of(tool, name, session, options):
     yield from writing_targets(tool, name, plain.bundle)
 
 
-def writing_targets(tool, name, bundle):
+def writing_targets(tool: Sweep, name: str, bundle: bytes) -> Iterator[Target]:
     """The commands that write the bundle of a recording again, byte for byte."""
     for command, begin in (("upgrade", b""), ("salvage", b"events=")):
         written = tool.sound([command, "bundle"], bundle)
@@ -269,7 +318,7 @@ def writing_targets(tool, name, bundle):
     )
 
 
-def cut_session(example):
+def cut_session(example: bytes) -> bytes:
     """The example with an output that is longer than the limit of 100 bytes."""
     lines = example.decode().splitlines()
     last = max(i for i, line in enumerate(lines) if '"kind":"test-finished"' in line)
@@ -280,7 +329,7 @@ def cut_session(example):
     return "\n".join(lines).encode()
 
 
-def targets(tool):
+def targets(tool: Sweep) -> Iterator[Target]:
     """All that is swept."""
     example = (TOP / "crates/rezovamy/data/example.session").read_bytes()
     yield from targets_of(tool, "example", example, [])
@@ -290,13 +339,13 @@ def targets(tool):
     ).stdout
     yield from targets_of(tool, "each kind", kinds, [])
     made = tool.sound(["sample", "9", "bundle"], b"")
-    demand(made.out == b"events=20 outputs=9\n", f"sample: it prints {made.out}")
+    demand(made.out == b"events=20 outputs=9\n", f"sample: it prints {made.out!r}")
     yield Target("sample", ["sample", "9", "bundle"], b"", b"SinkFailed\n")
     for word in ("--help", "--version"):
         yield Target(word, [word], b"", b"SinkFailed\n")
 
 
-def main():
+def main() -> None:
     parser = command_line(__doc__)
     parser.add_argument("program", help="the built program")
     parser.add_argument(
@@ -324,7 +373,7 @@ def main():
     program = os.path.abspath(asked.program)
     kept = Kept(asked.kept, program)
     with tempfile.TemporaryDirectory() as folder:
-        tool = Sweep(program, pathlib.Path(folder))
+        tool = Sweep(program, Path(folder))
         for target in targets(tool):
             if asked.only in target.name:
                 sweep(tool, kept, target, asked.first, asked.last)

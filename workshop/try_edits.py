@@ -1,40 +1,45 @@
-#!/usr/bin/env python3
-"""Shows that the checker refuses wrong bodies: each edit in `workshop/edits/CRATE`, by the proof of the function that it changes.
+"""Shows that the checker refuses wrong bodies: each edit in `workshop/edits/CRATE`, by the proof of
+the function that it changes.
 
-    python3 -m workshop.try_edits [--only WORD]     tries the edits with this word in `CRATE/NAME.edit`
-    python3 -m workshop.try_edits --refusals        tries besides one for each refusal of `record`
-    python3 -m workshop.try_edits --build           builds the libraries anew where one is missing or old, which takes hours
+    python3 -m workshop.try_edits [--only WORD]    tries those with this word in `CRATE/NAME.edit`
+    python3 -m workshop.try_edits --refusals       tries one for each refusal of `record` besides
+    python3 -m workshop.try_edits --build          builds libraries that are missing or old
 
-It checks copies of the crates over the libraries that `rt ci` built in this clone, or `rt lib` in their folders, and builds none
-without `--build`. It is to be run after a gate that passed: where a function isn't proved anyway, each edit of it counts as refused. What
-isn't refused is printed, and nothing where all is well: status 0, and 1 otherwise. Those in `crates/CRATE/must-fail` are left to
+Building the libraries takes hours.
+
+It checks copies of the crates over the libraries that `rt ci` built in this clone, or `rt lib` in
+their folders, and builds none without `--build`. It is to be run after a gate that passed: where a
+function isn't proved anyway, each edit of it counts as refused. What isn't refused is printed, and
+nothing where all is well: status 0, and 1 otherwise. Those in `crates/CRATE/must-fail` are left to
 `rt ci`. docs/CONTRIBUTING.md says how an edit is written.
 
-`--refusals` takes edits by which a session that was judged is refused all the same, one for each refusal of `record`: those in
-`workshop/edits/rec_export/refusals`, and for a refusal without an edit `always_..` one that is made here. `--summary` prints a line for each check: its crate, its processor seconds, its memory, and its
-edits. One that is refused `only by names`, as its proof names what the edit took away, says little of the contract.
+`--refusals` takes edits by which a session that was judged is refused all the same, one for each
+refusal of `record`: those in `workshop/edits/rec_export/refusals`, and for a refusal without an
+edit `always_..` one that is made here. `--summary` prints a line for each check: its crate, its
+processor seconds, its memory, and its edits. One that is refused `only by names`, as its proof
+names what the edit took away, says little of the contract.
 
-Crates are tried side by side, one a processor where each has 3 GB of free memory. An edit takes some 25 seconds of processor
-time, and more where its function calls many others of its crate.
+Crates are tried side by side, one a processor where each has 3 GB of free memory. An edit takes
+some 25 seconds of processor time, and more where its function calls many others of its crate.
 """
 
+from __future__ import annotations
+
 import concurrent.futures
+import dataclasses
 import os
-import pathlib
 import re
 import signal
 import subprocess
 import sys
 import tempfile
+from collections.abc import Callable, Iterable, Mapping
+from pathlib import Path
 
-from workshop import edit_checks
-from workshop import gate_cost
-from workshop import refusals
 from rezovamy_runs.command_line import command_line, say, whole
-from workshop.edit_checks import Checker, Clone, Unready, Verdict
+from workshop import TOP, edit_checks, gate_cost, refusals
+from workshop.edit_checks import Checker, Clone, Judgement, Round, Said, Unready, Verdict
 from workshop.edit_files import Misfit, misfit
-
-from workshop import TOP
 
 CRATES = TOP / "crates"
 EDITS = TOP / "workshop/edits"
@@ -44,7 +49,16 @@ INTERRUPTED = 130
 SETTLED = {Verdict.REFUSED, Verdict.PROVED}
 
 
-def edits_there(with_refusals=False):
+@dataclasses.dataclass(frozen=True)
+class Options:
+    """What is asked for beside the edits."""
+
+    build: bool = False
+    jobs: int | None = None
+    summary: bool = False
+
+
+def edits_there(with_refusals: bool = False) -> dict[str, str]:
     """The texts of the edits that are tried here, by their crates and names."""
     paths = [*EDITS.glob("*/*.edit"), *(EDITS.glob("*/refusals/*.edit") if with_refusals else [])]
     found = {
@@ -59,17 +73,17 @@ def edits_there(with_refusals=False):
     return found | {f"{refusals.CRATE}/{name}": text for name, text in made.items()}
 
 
-def crate_of(name):
+def crate_of(name: str) -> str:
     return name.partition("/")[0]
 
 
-def misfits(edits):
+def misfits(edits: Mapping[str, str]) -> str:
     """A line for each edit that can't be applied, or whose function isn't found."""
     found = {name: misfit(text, CRATES / crate_of(name)) for name, text in edits.items()}
     return "".join(f"{name}: {why}\n" for name, why in found.items() if why)
 
 
-def fault(verdict, words):
+def fault(verdict: Verdict, words: str) -> str:
     """What is said of an edit that isn't refused."""
     if verdict is Verdict.PROVED:
         return "NOT REFUSED: the function is still proved with it"
@@ -78,11 +92,15 @@ def fault(verdict, words):
     return f"BAD EDIT, which doesn't come to the proof of its function: {words}"
 
 
-def faults(edits, folder, check):
+def faults(
+    edits: Mapping[str, str], folder: Path, check: Callable[[Round], Mapping[str, Judgement]]
+) -> str:
     """A line for each edit of a crate that isn't refused, by checks of rounds of them."""
-    found, todo = {}, edit_checks.rounds(edits, folder)
+    found: dict[str, str] = {}
+    todo = edit_checks.rounds(edits, folder)
     while todo:
-        later, alone = {}, {}
+        later: dict[str, str] = {}
+        alone: dict[str, str] = {}
         for each in todo:
             said = check(each)
             kinds = {verdict for verdict, _ in said.values()}
@@ -99,10 +117,13 @@ def faults(edits, folder, check):
     return "".join(found[name] for name in edits if name in found)
 
 
-def try_crate(crate, edits, checker, summary):
-    """What is wrong of a crate's edits. What one check has proved of other functions the next one takes from a folder."""
+def try_crate(crate: str, edits: Mapping[str, str], checker: Checker, summary: bool) -> str:
+    """What is wrong of a crate's edits.
 
-    def check(each):
+    What one check has proved of other functions the next one takes from a folder.
+    """
+
+    def check(each: Round) -> Mapping[str, Judgement]:
         said = checker.check(crate, each, kept)
         found = edit_checks.verdicts(said, crate, each.functions)
         if summary:
@@ -116,24 +137,28 @@ def try_crate(crate, edits, checker, summary):
             return f"{crate}: {why}\n"
 
 
-def summary_of(crate, said, each, found):
-    """A line of what a check took, and of the edits that it has settled. What is refused only by names may be a poor edit."""
+def summary_of(crate: str, said: Said, each: Round, found: Mapping[str, Judgement]) -> str:
+    """A line of what a check took, and of the edits that it has settled.
+
+    What is refused only by names may be a poor edit.
+    """
     shown = []
     for name, functions in each.functions.items():
         is_poor = found[name][0] is Verdict.REFUSED and any(map(said.is_by_names, functions))
         shown.append(
-            f"{name.rpartition('/')[2]} {'only by names' if is_poor else found[name][0].name.lower()}"
+            f"{name.rpartition('/')[2]} "
+            f"{'only by names' if is_poor else found[name][0].name.lower()}"
         )
     return f"{crate}: {said.seconds:.0f} s, {said.memory / 1e6:.1f} GB: {', '.join(shown)}"
 
 
-def most_at_once():
+def most_at_once() -> int:
     """How many checks run at a time: as many as there are processors, and as free memory holds."""
-    free = re.search(r"^MemAvailable: +(\d+)", pathlib.Path("/proc/meminfo").read_text(), re.M)
+    free = re.search(r"^MemAvailable: +(\d+)", Path("/proc/meminfo").read_text(), re.M)
     return max(1, min(len(os.sched_getaffinity(0)), int(free[1]) // MEMORY if free else 1))
 
 
-def build(clone, crates):
+def build(clone: Clone, crates: Iterable[str]) -> None:
     """Builds the libraries that some crates use; `rt` builds first those below each."""
     for name in sorted(
         {used for crate in crates for used in clone.uses[crate] if used in clone.uses}
@@ -146,24 +171,24 @@ def build(clone, crates):
             raise Unready(f"the library {name} can't be built")
 
 
-def try_all(edits, clone, words):
+def try_all(edits: Mapping[str, str], clone: Clone, options: Options) -> str:
     """What is wrong of edits, the crates with most of them first."""
-    parted = {crate: {} for crate in clone.uses}
+    parted: dict[str, dict[str, str]] = {crate: {} for crate in clone.uses}
     for name, text in edits.items():
         parted[crate_of(name)][name] = text
     crates = sorted(
         (crate for crate in parted if parted[crate]), key=lambda crate: -len(parted[crate])
     )
-    if words.build and list(clone.unbuilt(crates)):
+    if options.build and list(clone.unbuilt(crates)):
         build(clone, crates)
     unbuilt = list(clone.unbuilt(crates))
     if unbuilt:
         raise Unready("\n".join([*unbuilt, edit_checks.BUILD]))
     checker = Checker(clone)
-    with concurrent.futures.ThreadPoolExecutor(words.jobs or most_at_once()) as pool:
+    with concurrent.futures.ThreadPoolExecutor(options.jobs or most_at_once()) as pool:
         try:
             tasks = [
-                pool.submit(try_crate, crate, parted[crate], checker, words.summary)
+                pool.submit(try_crate, crate, parted[crate], checker, options.summary)
                 for crate in crates
             ]
             return "".join(task.result() for task in tasks)
@@ -173,7 +198,7 @@ def try_all(edits, clone, words):
             raise
 
 
-def main():
+def main() -> int:
     for number in (signal.SIGINT, signal.SIGTERM, signal.SIGHUP):
         # Each comes as an interrupt, by which the checks are ended too.
         signal.signal(number, signal.default_int_handler)
@@ -204,7 +229,8 @@ def main():
         if not edits:
             parser.error(f"no edit has {words.only!r} in its name")
         clone = Clone(CRATES, gate_cost.crates((TOP / "crates.txt").read_text()), edit_checks.kit())
-        found = misfits(edits) or try_all(edits, clone, words)
+        options = Options(words.build, words.jobs, words.summary)
+        found = misfits(edits) or try_all(edits, clone, options)
     except (OSError, Misfit, Unready, refusals.Unknown) as error:
         say(f"try_edits: {error}")
         return 1

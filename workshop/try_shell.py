@@ -1,27 +1,29 @@
-#!/usr/bin/env python3
 """Runs the built program as a shell may run it, and prints only what is wrong.
 
     python3 -m workshop.try_shell [crates/rezovamy/out/rezovamy]
 
-Standard streams that are closed, full or left by their reader, files that can't be written, and limits of the system: each is a
-line for `sh`, with what must come of it. docs/RELIABILITY.md has the same as a table. A small file system and another user need
-rights; where there are none, their lines are named on standard error, and left out. It needs Linux.
+Standard streams that are closed, full or left by their reader, files that can't be written, and
+limits of the system: each is a line for `sh`, with what must come of it. docs/RELIABILITY.md has
+the same as a table. A small file system and another user need rights; where there are none, their
+lines are named on standard error, and left out. It needs Linux.
 """
+
+from __future__ import annotations
 
 import dataclasses
 import os
-import pathlib
 import signal
 import subprocess
 import sys
 import tempfile
+from pathlib import Path
+from typing import TypeAlias
 
+from rezovamy_runs.command_line import command_line, demand_program, heed_signals, say
+from workshop import PROGRAM
 from workshop.cases.hostile import BUNDLE, SESSION
 from workshop.cases.samples import BUNDLE_OF_NONE
 from workshop.cases.texts import PAUSE_ALONE
-from rezovamy_runs.command_line import command_line, demand_program, heed_signals, say
-
-from workshop import PROGRAM
 
 LONGEST_RUN = 60
 OLD = b"an older file"
@@ -38,8 +40,9 @@ NOBODY = "setpriv --reuid=65534 --regid=65534 --clear-groups " if os.geteuid() =
 class Try:
     """A line for a shell, and what must come of it.
 
-    In its folder stand `session` and its `bundle`, a `large` bundle, `old` and `locked`, which hold an older file, the folders
-    `folder` and `small`, and the pipe `pipe`. `file` is what `b` is after it, None where there is none, and `old` what `old` is.
+    In its folder stand `session` and its `bundle`, a `large` bundle, `old` and `locked`, which hold
+    an older file, the folders `folder` and `small`, and the pipe `pipe`. `file` is what `b` is
+    after it, None where there is none, and `old` what `old` is.
     """
 
     name: str
@@ -47,11 +50,11 @@ class Try:
     status: int = 0
     said: bytes = b""
     printed: bytes = b""
-    file: object = None
+    file: bytes | None = None
     old: bytes = OLD
 
 
-def left(line):
+def left(line: str) -> str:
     """A line whose standard output is a pipe that its reader has left."""
     return f"exec 3<>pipe 4>pipe 3<&-; {line} >&4"
 
@@ -232,8 +235,10 @@ OTHER_USER = (
 )
 
 
-def small_file_system(large):
-    """What is tried on a file system with room for a page: a bundle of another size, and one that is there."""
+def small_file_system(large: bytes) -> tuple[str, list[Try]]:
+    """What is tried on a file system with room for a page: a bundle of another size, and one that
+    is there.
+    """
     sample = f"cd small; rezovamy sample {LARGE_SAMPLE} b; s=$?; cp b ..; exit $s"
     again = f"cd small; cp ../bundle b; rezovamy sample {LARGE_SAMPLE} b; s=$?; cp b ..; exit $s"
     return SMALL % "true", [
@@ -248,17 +253,26 @@ def small_file_system(large):
     ]
 
 
+# Status, standard error, standard output, and the files `b` and `old` after a line.
+Done: TypeAlias = tuple[int, bytes, bytes, bytes | None, bytes | None]
+
+
+def content(path: Path) -> bytes | None:
+    """Return what a file holds, None where it isn't there."""
+    return path.read_bytes() if path.exists() else None
+
+
 class Shell:
     """Runs lines, each in a folder of its own."""
 
-    def __init__(self, commands):
+    def __init__(self, commands: str) -> None:
         self.paths = {**os.environ, "PATH": f"{commands}:{os.environ['PATH']}"}
         self.large = b""
 
-    def run(self, line):
+    def run(self, line: str) -> Done:
         """Status, standard error, standard output, and the files `b` and `old` after a line."""
         with tempfile.TemporaryDirectory() as name:
-            folder = pathlib.Path(name)
+            folder = Path(name)
             self.fill(folder)
             done = subprocess.run(
                 ["sh", "-c", line],
@@ -268,13 +282,10 @@ class Shell:
                 capture_output=True,
                 timeout=LONGEST_RUN,
             )
-            files = [
-                path.read_bytes() if path.exists() else None
-                for path in (folder / "b", folder / "old")
-            ]
-            return done.returncode, done.stderr, done.stdout, *files
+            written, old = (content(folder / name) for name in ("b", "old"))
+            return done.returncode, done.stderr, done.stdout, written, old
 
-    def fill(self, folder):
+    def fill(self, folder: Path) -> None:
         """Puts into the folder what lines need."""
         for name, data in (
             ("session", SESSION),
@@ -290,32 +301,28 @@ class Shell:
         (folder / "locked").chmod(0o444)
         folder.chmod(0o755)
 
-    def faults(self, tried):
+    def faults(self, tried: Try) -> list[str]:
         """What is wrong about a try."""
-        status, said, printed, file, old = self.run(tried.line)
-        wanted = [
-            ("status", tried.status, status),
-            ("standard error", tried.said, said),
-            ("standard output", tried.printed, printed),
-        ]
-        wanted += [("the file", tried.file, file), ("the older file", tried.old, old)]
+        names = ("status", "standard error", "standard output", "the file", "the older file")
+        must = (tried.status, tried.said, tried.printed, tried.file, tried.old)
         return [
             f"{what} is {found!r} in place of {want!r}"
-            for what, want, found in wanted
+            for what, want, found in zip(names, must, self.run(tried.line))
             if want != found
         ]
 
-    def allowed(self, needed, tries):
+    def allowed(self, needed: str, tries: list[Try]) -> list[Try]:
         """The tries, or none where a line that needs the same rights is refused."""
         if self.run(needed)[0] == 0:
             return tries
         say(
-            f"left out, since there are no rights for it: {', '.join(tried.name for tried in tries)}"
+            f"left out, since there are no rights for it: "
+            f"{', '.join(tried.name for tried in tries)}"
         )
         return []
 
 
-def all_tries(shell):
+def all_tries(shell: Shell) -> list[Try]:
     return [
         *STANDARD_OUTPUT,
         *STANDARD_ERROR,
@@ -327,12 +334,13 @@ def all_tries(shell):
     ]
 
 
-def try_all(shell):
+def try_all(shell: Shell) -> bool:
     """Prints what is wrong, and returns whether anything is."""
     wrong = False
-    status, _, _, shell.large, _ = shell.run(f"rezovamy sample {LARGE_SAMPLE} b")
-    if status != 0:
+    status, _, _, large, _ = shell.run(f"rezovamy sample {LARGE_SAMPLE} b")
+    if status != 0 or large is None:
         sys.exit(f"FAULT: no sample is made: {status}")
+    shell.large = large
     for tried in all_tries(shell):
         for fault in shell.faults(tried):
             print(f"FAULT: {tried.name}: {tried.line}: {fault}")
@@ -340,20 +348,15 @@ def try_all(shell):
     return wrong
 
 
-def main():
+def main() -> None:
     heed_signals()
     parser = command_line(__doc__)
-    parser.add_argument(
-        "program",
-        nargs="?",
-        default=PROGRAM,
-        help="the built program",
-    )
+    parser.add_argument("program", nargs="?", default=PROGRAM, help="the built program")
     path = parser.parse_args().program
     demand_program(parser, path)
     with tempfile.TemporaryDirectory() as commands:
-        pathlib.Path(commands).chmod(0o755)
-        pathlib.Path(commands, "rezovamy").symlink_to(pathlib.Path(path).resolve())
+        Path(commands).chmod(0o755)
+        Path(commands, "rezovamy").symlink_to(Path(path).resolve())
         sys.exit(1 if try_all(Shell(commands)) else 0)
 
 

@@ -1,34 +1,41 @@
-#!/usr/bin/env python3
 """Stops a recorder at random moments, and prints what is lost of the events that it had accepted.
 
     python3 -m workshop.try_stops [--tries N] [--seed N] [--summary] [RECORDER PROGRAM]
 
-The recorder is `crates/rec_live/out/rec_live`, which writes the log and the store of a run as it goes, and prints how many events
-were accepted so far. It is killed when both files have a random length, or after a random time; or its files may not be longer
-than a random length, or lie on a file system with room for so much. The run's directory is then packed as it is, with a manifest
-that is made of the session's head, and `crates/rezovamy/out/rezovamy salvage` makes a bundle of it. This bundle has to have each
-event that was accepted, and at most one more, as `record` logs it, with its outputs byte for byte; and `replay` and `trace` have
-to read it. Where the recorder had not accepted the run's metadata, `salvage` may refuse.
+The recorder is `crates/rec_live/out/rec_live`, which writes the log and the store of a run as it
+goes, and prints how many events were accepted so far. It is killed when both files have a random
+length, or after a random time; or its files may not be longer than a random length, or lie on a
+file system with room for so much. The run's directory is then packed as it is, with a manifest that
+is made of the session's head, and `crates/rezovamy/out/rezovamy salvage` makes a bundle of it. This
+bundle has to have each event that was accepted, and at most one more, as `record` logs it, with its
+outputs byte for byte; and `replay` and `trace` have to read it. Where the recorder had not accepted
+the run's metadata, `salvage` may refuse.
 
-Of 100 tries, or those of `--tries`, the seed decides session, way and length; the moment is the machine's. A small file system
-needs rights and Linux; where there are none it is left out, which is said on standard error. Nothing is printed where all is
-well, but for `--summary`: a line that says what was tried.
+Of 100 tries, or those of `--tries`, the seed decides session, way and length; the moment is the
+machine's. A small file system needs rights and Linux; where there are none it is left out, which is
+said on standard error. Nothing is printed where all is well, but for `--summary`: a line that says
+what was tried.
 """
 
-import collections
+from __future__ import annotations
+
 import concurrent.futures
 import dataclasses
 import functools
 import hashlib
 import json
 import os
-import pathlib
 import random
 import subprocess
 import sys
 import tempfile
 import time
+from collections import Counter
+from collections.abc import Iterator, Sequence
+from pathlib import Path
+from typing import Protocol, TypeAlias
 
+from rezovamy_runs.bundles.container import container, entries
 from rezovamy_runs.command_line import (
     command_line,
     demand_program,
@@ -37,8 +44,6 @@ from rezovamy_runs.command_line import (
     say,
     whole,
 )
-from rezovamy_runs.bundles.container import container, entries
-
 from workshop import TOP
 
 CRATES = TOP / "crates"
@@ -59,7 +64,7 @@ NO_SIZES = {"compressed": 0, "uncompressed": 0, "entries": 0}
 MAKERS = (
     ("many events", ["make_session", "250", "--ends"]),
     ("long outputs", ["make_session", "40", "--distinct", "30000", "--ends"]),
-    ("each kind", ["make_kinds.py"]),
+    ("each kind", ["make_kinds"]),
 )
 KILLED_AT_LENGTH, KILLED_AFTER_TIME, LIMITED, FULL = WAYS = (
     "killed at a length",
@@ -76,18 +81,24 @@ LONGEST_RUN = 120
 WITHOUT_METADATA = 15
 
 
+# An output by the path and the content of its entry in the store.
+Output: TypeAlias = tuple[bytes, bytes]
+
+
 @dataclasses.dataclass(frozen=True)
 class Session:
-    """A session, and what comes of it where nothing stops: the lines of its log, both lengths, and the seconds that it takes."""
+    """A session, and what comes of it where nothing stops: the lines of its log, both lengths, and
+    the seconds that it takes.
+    """
 
     name: str
     text: bytes
-    lines: tuple
-    lengths: tuple = (0, 0)
+    lines: tuple[bytes, ...]
+    lengths: tuple[int, int] = (0, 0)
     seconds: float = 0
 
     @functools.cached_property
-    def manifest(self):
+    def manifest(self) -> bytes:
         """The manifest of a run with this head, of which no sizes are known."""
         head = json.loads(self.text.splitlines()[0])
         run = {name: head[name] for name in RUN_MEMBERS if name in head}
@@ -99,12 +110,12 @@ class Session:
         return json.dumps({"format-version": {"major": 1, "minor": 1}, "run": run}).encode()
 
     @functools.cached_property
-    def outputs(self):
+    def outputs(self) -> list[list[Output]]:
         """The outputs of each event, each as the path and the content of its entry in the store."""
         return [list(outputs_of(json.loads(line))) for line in self.text.splitlines()[1:]]
 
 
-def outputs_of(value):
+def outputs_of(value: object) -> Iterator[Output]:
     """The outputs in an event, as a store holds them. One without bytes has no entry."""
     if isinstance(value, list):
         for item in value:
@@ -126,21 +137,23 @@ class Stop:
     way: str
     part: float
 
-    def of(self, total):
+    def of(self, total: int) -> int:
         """The part of so many bytes, at least one."""
         return max(1, int(self.part * total))
 
 
 @dataclasses.dataclass(frozen=True)
 class Left:
-    """What a recorder left: its status, how many events it said were accepted, if it said so, and its files."""
+    """What a recorder left: its status, how many events it said were accepted, if it said so, and
+    its files.
+    """
 
     status: int
-    accepted: object
+    accepted: int | None
     log: bytes
     store: bytes
 
-    def bundle(self, manifest):
+    def bundle(self, manifest: bytes) -> bytes:
         return container(
             [(MANIFEST.encode(), manifest), (LOG.encode(), self.log), (STORE.encode(), self.store)]
         )
@@ -150,12 +163,12 @@ class Lost(Exception):
     """Something that was accepted isn't there, or what comes of it can't be read."""
 
 
-def demand(condition, what):
+def demand(condition: bool, what: str) -> None:
     if not condition:
         raise Lost(what)
 
 
-def accepted_of(printed):
+def accepted_of(printed: bytes) -> int | None:
     """How many events the printed lines say were accepted; the last line may be cut off."""
     lines = printed.split(b"\n")[:-1]
     demand(
@@ -168,18 +181,21 @@ def accepted_of(printed):
 class Recorder:
     """The recorder, run in a folder of its own for each try."""
 
-    def __init__(self, path):
+    def __init__(self, path: str | Path) -> None:
         self.path = os.path.abspath(path)
 
-    def stopped(self, session, stop):
-        """What is left of a recording that is stopped, or that comes to its end where there is no stop."""
+    def stopped(self, session: Session, stop: Stop | None) -> Left:
+        """What is left of a recording that is stopped, or that comes to its end where there is no
+        stop.
+        """
         with tempfile.TemporaryDirectory() as name:
-            folder = pathlib.Path(name)
+            folder = Path(name)
             for part in ("run", "left"):
                 (folder / part).mkdir()
             (folder / "session").write_bytes(session.text)
             with open(folder / "session", "rb") as source:
-                # Where writes beyond a limit fail, the signal of it has to be ignored, as Python does.
+                # Where writes beyond a limit fail, the signal of it has to be ignored, as Python
+                # does.
                 child = subprocess.Popen(
                     self.words(session, stop),
                     cwd=folder,
@@ -189,13 +205,14 @@ class Recorder:
                     restore_signals=False,
                 )
             # What is printed is less than a pipe holds.
+            assert child.stdout is not None
             with child.stdout:
                 status = ended(child, session, stop, folder / "run")
                 accepted = accepted_of(child.stdout.read())
             files = folder / ("left" if stop and stop.way == FULL else "run")
             return Left(status, accepted, *(content(files / file) for file in (LOG, STORE)))
 
-    def words(self, session, stop):
+    def words(self, session: Session, stop: Stop | None) -> list[str]:
         if stop and stop.way == LIMITED:
             return ["prlimit", f"--fsize={stop.of(max(session.lengths))}", self.path, "run"]
         if stop and stop.way == FULL:
@@ -214,7 +231,7 @@ class Recorder:
         return [self.path, "run"]
 
 
-def ended(child, session, stop, run):
+def ended(child: subprocess.Popen[bytes], session: Session, stop: Stop | None, run: Path) -> int:
     """Waits until the recorder has ended, or is to be killed, and returns its status."""
     if stop and stop.way == KILLED_AT_LENGTH:
         wanted = stop.of(sum(session.lengths))
@@ -227,35 +244,45 @@ def ended(child, session, stop, run):
     return child.wait(LONGEST_RUN)
 
 
-def length(path):
+def length(path: Path) -> int:
     return path.stat().st_size if path.exists() else 0
 
 
-def content(path):
+def content(path: Path) -> bytes:
     return path.read_bytes() if path.exists() else b""
+
+
+class Salvager(Protocol):
+    """What salvages a run that was stopped, and reads the bundle that comes of it."""
+
+    def run(self, words: Sequence[str], source: bytes, folder: str) -> tuple[int, bytes, bytes]:
+        """Return the status, standard output, and the file `b` of a command."""
+
+    def sound(self, words: Sequence[str], source: bytes, folder: str) -> tuple[bytes, bytes]:
+        """Return standard output and the file `b` of a command that has to succeed."""
 
 
 class Program:
     """The built program."""
 
-    def __init__(self, path):
+    def __init__(self, path: str | Path) -> None:
         self.path = os.path.abspath(path)
 
-    def run(self, words, source, folder):
+    def run(self, words: Sequence[str], source: bytes, folder: str) -> tuple[int, bytes, bytes]:
         """Status, standard output, and the file `b` where it is there."""
         done = subprocess.run(
             [self.path, *words], cwd=folder, input=source, capture_output=True, timeout=LONGEST_RUN
         )
-        return done.returncode, done.stdout, content(pathlib.Path(folder, "b"))
+        return done.returncode, done.stdout, content(Path(folder, "b"))
 
-    def sound(self, words, source, folder):
+    def sound(self, words: Sequence[str], source: bytes, folder: str) -> tuple[bytes, bytes]:
         """What a command prints that has to succeed, and the file `b`."""
         status, out, bundle = self.run(words, source, folder)
         demand(status == 0, f"{words[0]} ends with status {status}")
         return out, bundle
 
 
-def made(recorder, program, name, words):
+def made(recorder: Recorder, program: Salvager, name: str, words: Sequence[str]) -> Session:
     """The session that a tool makes, and what comes of it."""
     text = subprocess.run(
         [sys.executable, "-m", f"workshop.{words[0]}", *words[1:]],
@@ -277,7 +304,7 @@ def made(recorder, program, name, words):
     )
 
 
-def check(program, session, left):
+def check(program: Salvager, session: Session, left: Left) -> int | None:
     """Holds what is salvaged against what was accepted, and returns how many events that are."""
     with tempfile.TemporaryDirectory() as folder:
         status, out, bundle = program.run(["salvage", "b"], left.bundle(session.manifest), folder)
@@ -306,7 +333,7 @@ def check(program, session, left):
         return len(lines)
 
 
-def is_allowed():
+def is_allowed() -> bool:
     """Whether a small file system can be made."""
     with tempfile.TemporaryDirectory() as folder:
         words = [
@@ -329,7 +356,9 @@ def is_allowed():
             return False
 
 
-def plan(seed, tries, sessions, ways):
+def plan(
+    seed: int, tries: int, sessions: Sequence[Session], ways: Sequence[str]
+) -> Iterator[tuple[Session, Stop]]:
     """What is tried, by the seed."""
     chance = random.Random(seed)
     for number in range(tries):
@@ -339,10 +368,11 @@ def plan(seed, tries, sessions, ways):
 class Summary:
     """What was tried."""
 
-    def __init__(self):
-        self.counts, self.accepted, self.salvaged = collections.Counter(), 0, 0
+    def __init__(self) -> None:
+        self.counts: Counter[str] = Counter()
+        self.accepted = self.salvaged = 0
 
-    def add(self, session, stop, left, salvaged):
+    def add(self, session: Session, stop: Stop, left: Left, salvaged: int | None) -> None:
         self.counts[stop.way] += 1
         self.counts["early"] += left.accepted is None
         self.counts["whole"] += left.accepted == len(session.lines)
@@ -351,53 +381,61 @@ class Summary:
         self.accepted += left.accepted or 0
         self.salvaged += salvaged or 0
 
-    def text(self, seed):
+    def text(self, seed: int) -> str:
         ways = ", ".join(f"{self.counts[way]} {way}" for way in WAYS)
-        places = f"{self.counts['in a line']} in a line of the log, {self.counts['in an entry']} in an entry of the store"
-        ends = f"{self.counts['early']} before the metadata was accepted, {self.counts['whole']} after the last event"
+        places = (
+            f"{self.counts['in a line']} in a line of the log, {self.counts['in an entry']} in an "
+            f"entry of the store"
+        )
+        ends = (
+            f"{self.counts['early']} before the metadata was accepted, {self.counts['whole']} "
+            f"after the last event"
+        )
         tries = sum(self.counts[way] for way in WAYS)
         events = f"{self.accepted} events accepted, {self.salvaged} salvaged"
         return f"{tries} tries with seed {seed}: {ways}; {places}; {ends}; {events}\n"
 
 
-def ends_in_entry(store):
+def ends_in_entry(store: bytes) -> bool:
     """Whether a store is cut off within its magic or an entry."""
     spelled = container(entries(store).items())
     return len(store) > 0 and store not in (spelled, spelled[:-1])
 
 
-def tried(recorder, program, session, stop):
-    """What a try left, how many events are salvaged of it, and what is wrong."""
+def tried(
+    recorder: Recorder, program: Salvager, session: Session, stop: Stop
+) -> tuple[Left, int | None] | str:
+    """Return what a try left and how many events are salvaged of it, or what is wrong."""
     try:
         left = recorder.stopped(session, stop)
         demand(left.status in ENDS[stop.way], f"the recorder ends with status {left.status}")
-        return left, check(program, session, left), None
+        return left, check(program, session, left)
     except (Lost, subprocess.TimeoutExpired) as fault:
-        return None, None, f"{session.name}, {stop.way}, {stop.part:.6f}: {fault}"
+        return f"{session.name}, {stop.way}, {stop.part:.6f}: {fault}"
 
 
-def try_all(recorder, program, asked):
+def try_all(recorder: Recorder, program: Program, seed: int, tries: int, summarized: bool) -> bool:
     """Prints what is wrong, and returns whether anything is."""
     sessions = [made(recorder, program, *maker) for maker in MAKERS]
     ways = WAYS if is_allowed() else WAYS[:-1]
     if ways != WAYS:
         say(f"left out, since there are no rights for it: {FULL}")
-    tries = list(plan(asked.seed, asked.tries, sessions, ways))
+    planned = list(plan(seed, tries, sessions, ways))
     with concurrent.futures.ThreadPoolExecutor(os.cpu_count()) as pool:
-        found = list(pool.map(lambda one: tried(recorder, program, *one), tries))
+        found = list(pool.map(lambda one: tried(recorder, program, *one), planned))
     summary, wrong = Summary(), False
-    for (session, stop), (left, salvaged, fault) in zip(tries, found):
-        if fault:
-            print_out(f"FAULT: {fault}\n")
+    for (session, stop), result in zip(planned, found):
+        if isinstance(result, str):
+            print_out(f"FAULT: {result}\n")
             wrong = True
         else:
-            summary.add(session, stop, left, salvaged)
-    if asked.summary:
-        print_out(summary.text(asked.seed))
+            summary.add(session, stop, *result)
+    if summarized:
+        print_out(summary.text(seed))
     return wrong
 
 
-def main():
+def main() -> None:
     heed_signals()
     parser = command_line(__doc__)
     parser.add_argument(
@@ -421,7 +459,9 @@ def main():
     for path in paths:
         demand_program(parser, path)
     try:
-        sys.exit(1 if try_all(Recorder(paths[0]), Program(paths[1]), asked) else 0)
+        recorder, program = Recorder(paths[0]), Program(paths[1])
+        is_wrong = try_all(recorder, program, asked.seed, asked.tries, asked.summary)
+        sys.exit(int(is_wrong))
     except Lost as fault:
         sys.exit(f"FAULT: {fault}")
 

@@ -1,9 +1,16 @@
-"""A case for the built program: what it is given, and what comes of it."""
+"""A case for the built program: what it is given, and what must come of it."""
+
+from __future__ import annotations
 
 import dataclasses
-import typing
+from collections.abc import Callable
+from typing import TypeAlias
 
 from rezovamy_runs.bundles.container import entries
+
+# The words after the program's name, and a name in a container with its content.
+Words: TypeAlias = tuple[str, ...]
+Entry: TypeAlias = tuple[bytes, bytes]
 
 
 @dataclasses.dataclass(frozen=True)
@@ -11,75 +18,88 @@ class Holds:
     """Bytes of which only something is said."""
 
     says: str
-    test: typing.Callable[[bytes], bool]
+    test: Callable[[bytes], bool]
 
-    def __repr__(self):
+    def __repr__(self) -> str:
+        """Return what is said."""
         return self.says
 
+
+# Bytes as they must be, or what is said of them.
+Wanted: TypeAlias = bytes | Holds
 
 ANY = Holds("anything", lambda data: True)
 SOME = Holds("something", lambda data: data != b"")
 
 
-def begins(prefix):
+def begins(prefix: bytes) -> Holds:
+    """Say that bytes begin with these."""
     return Holds(f"something that begins with {prefix!r}", lambda data: data.startswith(prefix))
 
 
-def ends(suffix):
+def ends(suffix: bytes) -> Holds:
+    """Say that bytes end with these."""
     return Holds(f"something that ends with {suffix!r}", lambda data: data.endswith(suffix))
 
 
-def has(*parts):
+def has(*parts: bytes) -> Holds:
+    """Say that bytes have each of these parts."""
     return Holds(f"something with {parts}", lambda data: all(part in data for part in parts))
 
 
-def lacks(part):
+def lacks(part: bytes) -> Holds:
+    """Say that bytes don't have this part."""
     return Holds(f"something without {part!r}", lambda data: part not in data)
 
 
-def of_length(length):
+def of_length(length: int) -> Holds:
+    """Say how many bytes there are."""
     return Holds(f"{length} bytes", lambda data: len(data) == length)
 
 
-def entry_is(name, wanted):
-    """A container whose entry of this name is `wanted`, or of which that is said."""
+def entry_is(name: bytes, wanted: Wanted) -> Holds:
+    """Say of a container that its entry of this name is `wanted`, or that this holds of it."""
     return Holds(
-        f"a container whose {name} is {wanted!r}",
-        lambda data: name in entries(data) and fits(wanted, entries(data)[name]),
+        f"a container whose {name!r} is {wanted!r}",
+        lambda data: fits(wanted, entries(data).get(name)),
     )
 
 
-def outputs(data):
-    """The outputs in the store of a bundle, by their paths in their order."""
-    return [
-        (name, content)
-        for name, content in entries(entries(data)[b"store.zip"]).items()
-        if name.startswith(b"out/")
-    ]
+def outputs(data: bytes) -> list[Entry]:
+    """List the outputs in the store of a bundle with their paths, in their order."""
+    stored = entries(entries(data)[b"store.zip"])
+    return [(name, content) for name, content in stored.items() if name.startswith(b"out/")]
 
 
-def kept_are(wanted):
+def kept_are(wanted: list[bytes]) -> Holds:
+    """Say of a bundle that its outputs are these."""
     return Holds(
         f"a bundle with the contents {wanted}",
         lambda data: [content for _, content in outputs(data)] == wanted,
     )
 
 
-def both(first, second):
+def both(first: Wanted, second: Wanted) -> Holds:
+    """Say two things of the same bytes."""
     return Holds(f"{first!r} and {second!r}", lambda data: fits(first, data) and fits(second, data))
 
 
-def fits(wanted, found):
-    """Whether these bytes are the wanted ones, or what is said holds of them."""
-    return wanted.test(found) if isinstance(wanted, Holds) else wanted == found
+def fits(wanted: Wanted | None, found: bytes | None) -> bool:
+    """Return whether bytes are the wanted ones, or what is said holds of them; None is nothing."""
+    if isinstance(wanted, Holds):
+        return found is not None and wanted.test(found)
+    return wanted == found
 
 
 @dataclasses.dataclass(frozen=True)
 class Beside:
-    """Bytes beside those that the same words print of another input: made of these, `wanted` is what they must be."""
+    """What is wanted beside what the same words print of another input.
+
+    `wanted` makes of these bytes what must be printed, or what is said of it.
+    """
 
     input: bytes
-    wanted: typing.Callable[[bytes], object]
+    wanted: Callable[[bytes], Wanted]
 
 
 @dataclasses.dataclass(frozen=True)
@@ -87,21 +107,21 @@ class Recorded:
     """The bundle that `record` writes of a session under these options."""
 
     session: bytes
-    options: tuple = ()
+    options: Words = ()
 
-    def asked(self):
-        """The words and the standard input by which the program writes it into the file `b`."""
+    def asked(self) -> tuple[Words, bytes]:
+        """Return the words and the standard input by which the program writes it into `b`."""
         return ("record", "b", *self.options), self.session
 
 
 @dataclasses.dataclass(frozen=True)
 class Sampled:
-    """The bundle that `sample` writes of so many tests."""
+    """The bundle that `sample` writes of this many tests."""
 
     tests: int
 
-    def asked(self):
-        """The words and the standard input by which the program writes it into the file `b`."""
+    def asked(self) -> tuple[Words, bytes]:
+        """Return the words and the standard input by which the program writes it into `b`."""
         return ("sample", str(self.tests), "b"), b""
 
 
@@ -112,20 +132,25 @@ class Endless:
     line: str
 
 
+# A bundle that is written first, and all that a case may give to the program.
+Written: TypeAlias = Recorded | Sampled
+Given: TypeAlias = bytes | Endless | Written
+
+
 @dataclasses.dataclass(frozen=True)
 class Case:
     """Words and standard input of the program, and what must come of them.
 
-    `input` are bytes, a line that comes again and again, or a bundle that is written first. `out` and `err` are all that is printed, or
-    something that is said of it, `out` also beside what another input prints; `file` is what the file `b` in the folder of the
-    case has then, None where there is none. Where a `device` is named, standard error goes to it, and is not seen.
+    `out` and `err` are all that is printed, or something that is said of it, `out` also beside what
+    another input prints; `file` is what the file `b` in the folder of the case has then, None where
+    there is none. Where a `device` is named, standard error goes to it, and is not seen.
     """
 
     name: str
-    words: tuple
-    input: object = b""
+    words: Words
+    input: Given = b""
     status: int = 0
-    out: object = b""
-    err: object = b""
-    file: object = None
-    device: object = None
+    out: Wanted | Beside = b""
+    err: Wanted = b""
+    file: Wanted | None = None
+    device: str | None = None

@@ -1,10 +1,17 @@
-"""Words that are a command, words that are none, and the texts that the program prints about itself."""
+"""Words that are a command, words that are none, and the texts that the program prints about
+itself.
+"""
 
-from workshop.cases.case import SOME, Case
+from __future__ import annotations
+
+from collections.abc import Sequence
+
+from workshop.cases.case import SOME, Case, Wanted
 from workshop.cases.texts import HEAD
 
-# Words, the status, the line on standard error, and whether standard output and the file `b` take something.
-COMMANDS = [
+# Words, the status, the line on standard error, and whether standard output and the file `b` take
+# something.
+COMMANDS: list[tuple[list[str], int, str, bool, bool]] = [
     ([], 2, "NoCommand", False, False),
     (["rec", "b"], 2, "UnknownCommand at=0", False, False),
     (["", "b"], 2, "UnknownCommand at=0", False, False),
@@ -14,7 +21,8 @@ COMMANDS = [
     (["record", "b", ""], 2, "UnknownOption at=2", False, False),
     (["record", "b", "--help", "x"], 2, "UnknownOption at=2", False, False),
     (["record", "b"], 0, "", True, True),
-    # No file has the empty word as its path, and the bundles of the next two go into files named for options.
+    # No file has the empty word as its path, and the bundles of the next two go into files named
+    # for options.
     (["record", ""], 10, "BundleFault", False, False),
     (["record", "--help"], 0, "", True, False),
     (["record", "--max-output"], 0, "", True, False),
@@ -257,19 +265,23 @@ With a status other than 0, a line on standard error names the cause.
 """
 
 
-def line_of(text):
+def line_of(text: str) -> bytes:
     """What stands on standard error, where a line of this text does."""
     return f"{text}\n".encode() if text else b""
 
 
-def named(words, status, line, prints, writes):
+def named(words: Sequence[str], status: int, line: str, prints: bool, writes: bool) -> Case:
     """A case of words over a head alone."""
-    out, file = SOME if prints else b"", SOME if writes else None
+    out: Wanted = SOME if prints else b""
+    file = SOME if writes else None
     return Case(f"words {words}", tuple(words), HEAD, status, out, line_of(line), file)
 
 
-def optioned(path, options, status, line):
-    """A case of `record` into this path over a head alone; no file has the empty word as its path."""
+def optioned(path: str, options: str, status: int, line: str) -> Case:
+    """A case of `record` into this path over a head alone.
+
+    No file has the empty word as its path.
+    """
     if path == "" and status == 0:
         status, line = 10, "BundleFault"
     return named(

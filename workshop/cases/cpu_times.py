@@ -1,4 +1,8 @@
-"""Cpu times of attempts: recorded, and read from stores of the version that has them and of the one before."""
+"""Cpu times of attempts: recorded, and read from stores of the version that has them and of the one
+before.
+"""
+
+from __future__ import annotations
 
 from workshop.cases.case import SOME, Case, entry_is, has
 from workshop.cases.line_cases import (
@@ -41,10 +45,11 @@ STORED_ABC = b'{"split":{"stdout":{"full":"ba7816bf8f01cfea-stdout"},"stderr":"e
 
 # The end of a run that took 3 seconds.
 RUN_FINISHED = (
-    b'{"timestamp":{"secs":1003,"nanos":0,"offset":0},"elapsed":{"secs":3,"nanos":0},"kind":"run-finished",'
-    b'"run-id":"550e8400-e29b-41d4-a716-446655440000","start-time":{"secs":1000,"nanos":0,"offset":0},'
-    b'"run-elapsed":{"secs":3,"nanos":0},"run-stats":{"stress":{"completed":{"current":0},"success-count":1,'
-    b'"failed-count":0,"last-final-stats":"success"}}}'
+    b'{"timestamp":{"secs":1003,"nanos":0,"offset":0},"elapsed":{"secs":3,"nanos":0},'
+    b'"kind":"run-finished","run-id":"550e8400-e29b-41d4-a716-446655440000",'
+    b'"start-time":{"secs":1000,"nanos":0,"offset":0},"run-elapsed":{"secs":3,"nanos":0},'
+    b'"run-stats":{"stress":{"completed":{"current":0},"success-count":1,"failed-count":0,'
+    b'"last-final-stats":"success"}}}'
 )
 
 REPLAY = b"""\
@@ -55,13 +60,15 @@ header 550e8400-e29b-41d4-a716-446655440000 incomplete
 """
 
 REPORT = (
-    b'{"name":"nextest-run","run-id":"550e8400-e29b-41d4-a716-446655440000","suites":[{"cases":[{"classname":"alpha::a",'
-    b'"name":"t1","status":{"success":[]},"time":{"nanos":0,"secs":1},"timestamp":{"nanos":0,"offset":0,"secs":1001}}],'
-    b'"name":"alpha::a","properties":[]}],"time":{"nanos":0,"secs":3},"timestamp":{"nanos":0,"offset":0,"secs":1000}}\n'
+    b'{"name":"nextest-run","run-id":"550e8400-e29b-41d4-a716-446655440000",'
+    b'"suites":[{"cases":[{"classname":"alpha::a","name":"t1","status":{"success":[]},'
+    b'"time":{"nanos":0,"secs":1},"timestamp":{"nanos":0,"offset":0,"secs":1001}}],'
+    b'"name":"alpha::a","properties":[]}],"time":{"nanos":0,"secs":3},"timestamp":{"nanos":0,'
+    b'"offset":0,"secs":1000}}\n'
 )
 
-# Minor versions of the store that are read, and the first of an attempt in their logs. A log of version 3.0 may have a
-# cpu time too.
+# Minor versions of the store that are read, and the first of an attempt in their logs. A log of
+# version 3.0 may have a cpu time too.
 READ_VERSIONS = [(b"0", b""), (b"0", ONE_SECOND), (b"1", b""), (b"1", ONE_SECOND)]
 
 # The trace of an attempt with this member: its end has the time, too.
@@ -74,24 +81,28 @@ TRACES = {
     ),
 }
 
-# An attempt that failed, as a session has it, up to the last members of its status; and as it is logged.
+# An attempt that failed, as a session has it, up to the last members of its status; and as it is
+# logged.
 BEFORE_LAST_MEMBERS = (
-    '{"timestamp":{"secs":1002,"nanos":0,"offset":0},"elapsed":{"secs":2,"nanos":0},"kind":"test-attempt-failed-will-retry",'
-    '"test-instance":{"binary-id":"alpha::a","test-name":"t1"},"delay-before-next-attempt":{"secs":0,"nanos":0},'
-    '"failure-output":"never","running":0,"run-status":{"retry-data":{"attempt":1,"total-attempts":2},'
-    '"output":{"start-error":""},"result":"exec-fail","start-time":{"secs":1001,"nanos":0,"offset":0},"time-taken":{"secs":1,'
-    '"nanos":0},"is-slow":false,"delay-before-start":{"secs":0,"nanos":0}'
+    '{"timestamp":{"secs":1002,"nanos":0,"offset":0},"elapsed":{"secs":2,"nanos":0},'
+    '"kind":"test-attempt-failed-will-retry","test-instance":{"binary-id":"alpha::a",'
+    '"test-name":"t1"},"delay-before-next-attempt":{"secs":0,"nanos":0},"failure-output":"never",'
+    '"running":0,"run-status":{"retry-data":{"attempt":1,"total-attempts":2},'
+    '"output":{"start-error":""},"result":"exec-fail","start-time":{"secs":1001,"nanos":0,'
+    '"offset":0},"time-taken":{"secs":1,"nanos":0},"is-slow":false,"delay-before-start":{"secs":0,'
+    '"nanos":0}'
 )
 
 BEFORE_FIRST_MEMBERS = (
-    '{"delay-before-next-attempt":{"nanos":0,"secs":0},"elapsed":{"nanos":0,"secs":2},"failure-output":"never",'
-    '"kind":"test-attempt-failed-will-retry","run-status":{'
+    '{"delay-before-next-attempt":{"nanos":0,"secs":0},"elapsed":{"nanos":0,"secs":2},'
+    '"failure-output":"never","kind":"test-attempt-failed-will-retry","run-status":{'
 )
 
 AFTER_FIRST_MEMBERS = (
-    '"delay-before-start":{"nanos":0,"secs":0},"is-slow":false,"output":{"start-error":""},"result":"exec-fail",'
-    '"retry-data":{"attempt":1,"total-attempts":2},"start-time":{"nanos":0,"offset":0,"secs":1001},"time-taken":{"nanos":0,'
-    '"secs":1}},"running":0,"test-instance":{"binary-id":"alpha::a","test-name":"t1"},"timestamp":{"nanos":0,"offset":0,'
+    '"delay-before-start":{"nanos":0,"secs":0},"is-slow":false,"output":{"start-error":""},'
+    '"result":"exec-fail","retry-data":{"attempt":1,"total-attempts":2},"start-time":{"nanos":0,'
+    '"offset":0,"secs":1001},"time-taken":{"nanos":0,"secs":1}},"running":0,'
+    '"test-instance":{"binary-id":"alpha::a","test-name":"t1"},"timestamp":{"nanos":0,"offset":0,'
     '"secs":1002}}'
 )
 
@@ -116,30 +127,32 @@ NO_CPU_TIMES = [
 ]
 
 
-def finished_test(member, *outputs):
+def finished_test(member: bytes, *outputs: bytes) -> bytes:
     """The line of a finished test with this member first in its attempt."""
     return replaced(finished(*outputs), b'"retry-data"', member + b'"retry-data"')
 
 
-def manifest_of(minor):
+def manifest_of(minor: bytes) -> bytes:
     """The manifest of a minor version of the store's format."""
     return replaced(
         MANIFEST, b'"store-format-minor-version":1', b'"store-format-minor-version":' + minor
     )
 
 
-def bundle_of(minor, member, last):
-    """A bundle whose store has this minor version, with this member first in the attempt, and this line at the log's end."""
+def bundle_of(minor: bytes, member: bytes, last: bytes) -> bytes:
+    """A bundle whose store has this minor version, with this member first in the attempt, and this
+    line at the log's end.
+    """
     log = log_of(RUN_STARTED, TEST_STARTED, finished_test(member, STORED_ABC), last)
     return bundle(log, STORE, manifest_of(minor))
 
 
-def with_last(members):
+def with_last(members: str) -> str:
     """The attempt that failed, with these members at the end of its status."""
     return BEFORE_LAST_MEMBERS + members + "}}"
 
 
-def with_first(members):
+def with_first(members: str) -> str:
     """The same as it is logged, with these members first in its status."""
     return BEFORE_FIRST_MEMBERS + members + AFTER_FIRST_MEMBERS
 

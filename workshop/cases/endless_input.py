@@ -1,5 +1,7 @@
 """Input without an end: long lines and blank lines, under a limit of what is read."""
 
+from __future__ import annotations
+
 from workshop.cases.case import Case, Endless
 
 # A long line has more bytes than the limit.
@@ -19,8 +21,9 @@ COMMANDS = [
 ]
 
 
-def refused(name, given, words, fault):
-    words = (*words.split(" "), "--session-limit", "10")
+def refused(name: str, given: Endless, command: str, fault: str) -> Case:
+    """Give a command input that never ends."""
+    words = (*command.split(" "), "--session-limit", "10")
     return Case(f"{name}, {words[0]}", words, given, 4, err=f"{fault} limit=10\n".encode())
 
 

@@ -1,30 +1,36 @@
 """Values of tests and setup scripts in events, as they are read and as they are logged."""
 
+from __future__ import annotations
+
 from workshop.cases.case import SOME, Case, kept_are
+from workshop.cases.events import starts_of
 from workshop.cases.line_cases import (
     REFUSED,
     RUN_IDS,
     TEXTS,
+    Rows,
     in_event,
     read_of_log,
     refused_in_log,
     refused_in_session,
 )
-from workshop.cases.made import session, starts_of
+from workshop.cases.made import session
 
 # Lines as they are logged, with VALUE for what is tried.
 RUNNING = (
-    '{"elapsed":{"nanos":0,"secs":0},"kind":"run-paused","running":VALUE,"setup-scripts-running":0,"timestamp":{"nanos":0,'
-    '"offset":0,"secs":1000}}'
+    '{"elapsed":{"nanos":0,"secs":0},"kind":"run-paused","running":VALUE,"setup-scripts-running":0,'
+    '"timestamp":{"nanos":0,"offset":0,"secs":1000}}'
 )
 SCRIPT_ID = (
-    '{"args":[],"elapsed":{"nanos":0,"secs":0},"index":0,"kind":"setup-script-started","no-capture":false,"program":"sh",'
-    '"script-id":VALUE,"timestamp":{"nanos":0,"offset":0,"secs":1000},"total":1}'
+    '{"args":[],"elapsed":{"nanos":0,"secs":0},"index":0,"kind":"setup-script-started",'
+    '"no-capture":false,"program":"sh","script-id":VALUE,"timestamp":{"nanos":0,"offset":0,'
+    '"secs":1000},"total":1}'
 )
 NO_CAPTURE = SCRIPT_ID.replace("VALUE", '"db"').replace("false", "VALUE")
 PROFILE = (
     '{"cli-args":[],"elapsed":{"nanos":0,"secs":0},"kind":"run-started","profile-name":VALUE,'
-    '"run-id":"550e8400-e29b-41d4-a716-446655440000","timestamp":{"nanos":0,"offset":0,"secs":1000}}'
+    '"run-id":"550e8400-e29b-41d4-a716-446655440000","timestamp":{"nanos":0,"offset":0,'
+    '"secs":1000}}'
 )
 RUN_ID = PROFILE.replace("VALUE", '"default"').replace(
     '"550e8400-e29b-41d4-a716-446655440000"', "VALUE"
@@ -33,8 +39,8 @@ CONDITION = PROFILE.replace("VALUE", '"default"').replace(
     '"timestamp"', '"stress-condition":VALUE,"timestamp"'
 )
 TEST_INSTANCE = (
-    '{"elapsed":{"nanos":0,"secs":0},"junit-report-skipped":"none","kind":"test-skipped","reason":"ignored",'
-    '"test-instance":VALUE,"timestamp":{"nanos":0,"offset":0,"secs":1000}}'
+    '{"elapsed":{"nanos":0,"secs":0},"junit-report-skipped":"none","kind":"test-skipped",'
+    '"reason":"ignored","test-instance":VALUE,"timestamp":{"nanos":0,"offset":0,"secs":1000}}'
 )
 BINARY_ID = TEST_INSTANCE.replace("VALUE", '{"binary-id":VALUE,"test-name":"t1"}')
 TEST_NAME = TEST_INSTANCE.replace("VALUE", '{"binary-id":"alpha::a","test-name":VALUE}')
@@ -43,25 +49,28 @@ STRESS_INDEX = SKIP.replace('"test-instance"', '"stress-index":VALUE,"test-insta
 REASON = SKIP.replace('"ignored"', "VALUE")
 REPORTED = SKIP.replace('"none"', "VALUE")
 RETRY_DATA = (
-    '{"command-line":[],"elapsed":{"nanos":0,"secs":0},"kind":"test-retry-started","retry-data":VALUE,"running":1,'
-    '"slot-assignment":{"global-slot":0,"test-group":"@global"},"test-instance":{"binary-id":"alpha::a","test-name":"t1"},'
-    '"timestamp":{"nanos":0,"offset":0,"secs":1000}}'
+    '{"command-line":[],"elapsed":{"nanos":0,"secs":0},"kind":"test-retry-started",'
+    '"retry-data":VALUE,"running":1,"slot-assignment":{"global-slot":0,"test-group":"@global"},'
+    '"test-instance":{"binary-id":"alpha::a","test-name":"t1"},"timestamp":{"nanos":0,"offset":0,'
+    '"secs":1000}}'
 )
 SLOT = RETRY_DATA.replace("VALUE", '{"attempt":2,"total-attempts":3}').replace(
     '{"global-slot":0,"test-group":"@global"}', "VALUE"
 )
 GROUP = SLOT.replace("VALUE", '{"global-slot":0,"test-group":VALUE}')
 CANCEL = (
-    '{"elapsed":{"nanos":0,"secs":0},"kind":"run-begin-cancel","reason":VALUE,"running":0,"setup-scripts-running":0,'
-    '"timestamp":{"nanos":0,"offset":0,"secs":1000}}'
+    '{"elapsed":{"nanos":0,"secs":0},"kind":"run-begin-cancel","reason":VALUE,"running":0,'
+    '"setup-scripts-running":0,"timestamp":{"nanos":0,"offset":0,"secs":1000}}'
 )
 
 RESULT = (
-    '{"delay-before-next-attempt":{"nanos":0,"secs":0},"elapsed":{"nanos":0,"secs":0},"failure-output":"never",'
-    '"kind":"test-attempt-failed-will-retry","run-status":{"delay-before-start":{"nanos":0,"secs":0},"is-slow":false,'
-    '"output":{"start-error":""},"result":VALUE,"retry-data":{"attempt":1,"total-attempts":2},"start-time":{"nanos":0,'
-    '"offset":0,"secs":1001},"time-taken":{"nanos":0,"secs":1}},"running":0,"test-instance":{"binary-id":"alpha::a",'
-    '"test-name":"t1"},"timestamp":{"nanos":0,"offset":0,"secs":1000}}'
+    '{"delay-before-next-attempt":{"nanos":0,"secs":0},"elapsed":{"nanos":0,"secs":0},'
+    '"failure-output":"never","kind":"test-attempt-failed-will-retry",'
+    '"run-status":{"delay-before-start":{"nanos":0,"secs":0},"is-slow":false,'
+    '"output":{"start-error":""},"result":VALUE,"retry-data":{"attempt":1,"total-attempts":2},'
+    '"start-time":{"nanos":0,"offset":0,"secs":1001},"time-taken":{"nanos":0,"secs":1}},'
+    '"running":0,"test-instance":{"binary-id":"alpha::a","test-name":"t1"},"timestamp":{"nanos":0,'
+    '"offset":0,"secs":1000}}'
 )
 LEAK = RESULT.replace("VALUE", '{"leak":VALUE}')
 TIMEOUT = RESULT.replace("VALUE", '{"timeout":VALUE}')
@@ -75,16 +84,18 @@ OUTPUT = STREAMS.replace("VALUE", '{"combined":VALUE}')
 NAME = STREAMS.replace("VALUE", '{"split":{"stderr":{"full":VALUE}}}')
 STORED = STREAMS.replace("VALUE", '{"split":{"stdout":VALUE}}')
 FLAKY_RESULT = (
-    '{"current-stats":{"exec-failed":0,"failed":0,"failed-slow":0,"failed-timed-out":0,"finished-count":0,"flaky":0,'
-    '"initial-run-count":1,"leaky":0,"leaky-failed":0,"passed":0,"passed-slow":0,"passed-timed-out":0,'
-    '"setup-scripts-exec-failed":0,"setup-scripts-failed":0,"setup-scripts-finished-count":0,"setup-scripts-initial-count":0,'
-    '"setup-scripts-passed":0,"setup-scripts-timed-out":0,"skipped":0},"elapsed":{"nanos":0,"secs":0},'
-    '"failure-output":"never","junit-flaky-fail-status":"failure","junit-store-failure-output":true,'
-    '"junit-store-success-output":false,"kind":"test-finished","run-statuses":{"flaky-result":VALUE,'
-    '"statuses":[{"delay-before-start":{"nanos":0,"secs":0},"is-slow":false,"output":{"start-error":""},"result":"exec-fail",'
-    '"retry-data":{"attempt":1,"total-attempts":2},"start-time":{"nanos":0,"offset":0,"secs":1001},"time-taken":{"nanos":0,'
-    '"secs":1}}]},"running":0,"success-output":"never","test-instance":{"binary-id":"alpha::a","test-name":"t1"},'
-    '"timestamp":{"nanos":0,"offset":0,"secs":1000}}'
+    '{"current-stats":{"exec-failed":0,"failed":0,"failed-slow":0,"failed-timed-out":0,'
+    '"finished-count":0,"flaky":0,"initial-run-count":1,"leaky":0,"leaky-failed":0,"passed":0,'
+    '"passed-slow":0,"passed-timed-out":0,"setup-scripts-exec-failed":0,"setup-scripts-failed":0,'
+    '"setup-scripts-finished-count":0,"setup-scripts-initial-count":0,"setup-scripts-passed":0,'
+    '"setup-scripts-timed-out":0,"skipped":0},"elapsed":{"nanos":0,"secs":0},'
+    '"failure-output":"never","junit-flaky-fail-status":"failure",'
+    '"junit-store-failure-output":true,"junit-store-success-output":false,"kind":"test-finished",'
+    '"run-statuses":{"flaky-result":VALUE,"statuses":[{"delay-before-start":{"nanos":0,"secs":0},'
+    '"is-slow":false,"output":{"start-error":""},"result":"exec-fail","retry-data":{"attempt":1,'
+    '"total-attempts":2},"start-time":{"nanos":0,"offset":0,"secs":1001},"time-taken":{"nanos":0,'
+    '"secs":1}}]},"running":0,"success-output":"never","test-instance":{"binary-id":"alpha::a",'
+    '"test-name":"t1"},"timestamp":{"nanos":0,"offset":0,"secs":1000}}'
 )
 FLAKY_STATUS = FLAKY_RESULT.replace("VALUE", '"pass"').replace('"failure",', "VALUE,")
 
@@ -136,10 +147,16 @@ OF_LOGS = [
         [
             '"empty"',
             '{"full":"0123456789abcdef-stdout"}',
-            '{"truncated":{"file-name":"0123456789abcdef-stdout","original-size":18446744073709551615}}',
+            (
+                '{"truncated":{"file-name":"0123456789abcdef-stdout",'
+                '"original-size":18446744073709551615}}'
+            ),
         ],
         [
-            '{"truncated":{"file-name":"0123456789abcdef-stdout","original-size":18446744073709551616}}',
+            (
+                '{"truncated":{"file-name":"0123456789abcdef-stdout",'
+                '"original-size":18446744073709551616}}'
+            ),
             '{"truncated":"0123456789abcdef-stdout"}',
             '"full"',
             '{"empty":null}',
@@ -158,7 +175,7 @@ OF_LOGS = [
 ]
 
 # Values, and what they are written as once they are read.
-TABLES = [
+TABLES: list[tuple[str, str, Rows]] = [
     (
         "running tests",
         RUNNING,
@@ -170,19 +187,11 @@ TABLES = [
         ],
     ),
     ("truth value", NO_CAPTURE, [("true", "true"), ("false", "false"), ("0", REFUSED)]),
-    (
-        "text",
-        PROFILE,
-        TEXTS,
-    ),
-    ("binary id", BINARY_ID, [('""', '""'), ('"a::b"', '"a::b"')] + NO_TEXTS),
-    ("test name", TEST_NAME, [('"t 1"', '"t 1"')] + NO_TEXTS),
-    ("script id", SCRIPT_ID, [('"@tool:x"', '"@tool:x"')] + NO_TEXTS),
-    (
-        "run id",
-        RUN_ID,
-        RUN_IDS,
-    ),
+    ("text", PROFILE, TEXTS),
+    ("binary id", BINARY_ID, [('""', '""'), ('"a::b"', '"a::b"'), *NO_TEXTS]),
+    ("test name", TEST_NAME, [('"t 1"', '"t 1"'), *NO_TEXTS]),
+    ("script id", SCRIPT_ID, [('"@tool:x"', '"@tool:x"'), *NO_TEXTS]),
+    ("run id", RUN_ID, RUN_IDS),
     (
         "stress condition",
         CONDITION,
@@ -433,7 +442,7 @@ TABLES = [
 ]
 
 
-def kept(text, content):
+def kept(text: str, content: bytes) -> Case:
     """What is captured is stored as this content."""
     event = OUTPUT.replace("VALUE", text)
     stored = kept_are([content] if content else [])

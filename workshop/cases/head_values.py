@@ -1,10 +1,16 @@
-"""Values of heads and manifests as they are read, and as `info` prints them or the store holds them."""
+"""Values of heads and manifests as they are read, and as `info` prints them or the store holds
+them.
+"""
 
+from __future__ import annotations
+
+from collections.abc import Iterator
+
+from rezovamy_runs.bundles.container import container, entries
 from workshop.cases.case import SOME, Case, Holds, entry_is, has
-from workshop.cases.line_cases import REFUSED, RUN_IDS, TEXTS
+from workshop.cases.line_cases import REFUSED, RUN_IDS, TEXTS, Rows
 from workshop.cases.made import ONE_TEST, bundle, session, store
 from workshop.cases.texts import BUILD_SCOPE, COUNTED_MANIFEST, HEAD, HEADER, OLDER_STORE
-from rezovamy_runs.bundles.container import container, entries
 
 # The head and the manifest as texts, and the parts of a build scope with their defaults.
 HEAD_TEXT, MANIFEST_TEXT, SCOPE = HEAD.decode(), COUNTED_MANIFEST.decode(), BUILD_SCOPE.decode()
@@ -17,12 +23,16 @@ NO_TARGETS = (
 )
 DEFAULTS = '{"features":%s,"packages":%s,"targets":%s}' % (NO_FEATURES, NO_PACKAGES, NO_TARGETS)
 
-# A part of the manifest, what stands in its place, with VALUE for what is tried, and texts with what they are written as.
+# A part of the manifest, what stands in its place, with VALUE for what is tried, and texts with
+# what they are written as.
 OF_MANIFESTS = [
     (
         "u32",
         '"status":{"status":"incomplete"}',
-        '"status":{"exit-code":0,"failed-count":0,"status":"stress-completed","success-count":VALUE}',
+        (
+            '"status":{"exit-code":0,"failed-count":0,"status":"stress-completed",'
+            '"success-count":VALUE}'
+        ),
         [
             ("0", "0"),
             (" \t7\r\n", "7"),
@@ -80,7 +90,10 @@ OF_MANIFESTS = [
     (
         "u32 above 0",
         '"status":{"status":"incomplete"}',
-        '"status":{"exit-code":0,"failed-count":0,"initial-iteration-count":VALUE,"status":"stress-completed","success-count":0}',
+        (
+            '"status":{"exit-code":0,"failed-count":0,"initial-iteration-count":VALUE,'
+            '"status":"stress-completed","success-count":0}'
+        ),
         [
             ("1", "1"),
             ("4294967295", "4294967295"),
@@ -90,12 +103,7 @@ OF_MANIFESTS = [
             ("1.0", REFUSED),
         ],
     ),
-    (
-        "text",
-        '"cli-args":[]',
-        '"cli-args":[VALUE]',
-        TEXTS,
-    ),
+    ("text", '"cli-args":[]', '"cli-args":[VALUE]', TEXTS),
     (
         "escaped text",
         '"cli-args":[]',
@@ -121,12 +129,7 @@ OF_MANIFESTS = [
         '"cli-args":VALUE',
         [('["b", "a", "b"]', '["b","a","b"]'), ('["b",null]', REFUSED), ("{}", REFUSED)],
     ),
-    (
-        "run id",
-        '"550e8400-e29b-41d4-a716-446655440000"',
-        "VALUE",
-        RUN_IDS,
-    ),
+    ("run id", '"550e8400-e29b-41d4-a716-446655440000"', "VALUE", RUN_IDS),
     (
         "version",
         '"0.9.111"',
@@ -200,19 +203,34 @@ OF_MANIFESTS = [
         '"status":VALUE',
         [
             (
-                '{"status":"completed","initial-run-count":3,"passed":2,"failed":1,"exit-code":-100}',
-                '{"exit-code":-100,"failed":1,"initial-run-count":3,"passed":2,"status":"completed"}',
+                (
+                    '{"status":"completed","initial-run-count":3,"passed":2,"failed":1,'
+                    '"exit-code":-100}'
+                ),
+                (
+                    '{"exit-code":-100,"failed":1,"initial-run-count":3,"passed":2,'
+                    '"status":"completed"}'
+                ),
             ),
             (
                 '{"status":"cancelled","initial-run-count":3,"passed":0,"failed":0,"exit-code":4}',
                 '{"exit-code":4,"failed":0,"initial-run-count":3,"passed":0,"status":"cancelled"}',
             ),
             (
-                '{"status":"stress-completed","initial-iteration-count":5,"success-count":4,"failed-count":1,"exit-code":0}',
-                '{"exit-code":0,"failed-count":1,"initial-iteration-count":5,"status":"stress-completed","success-count":4}',
+                (
+                    '{"status":"stress-completed","initial-iteration-count":5,"success-count":4,'
+                    '"failed-count":1,"exit-code":0}'
+                ),
+                (
+                    '{"exit-code":0,"failed-count":1,"initial-iteration-count":5,'
+                    '"status":"stress-completed","success-count":4}'
+                ),
             ),
             (
-                '{"status":"stress-cancelled","initial-iteration-count":null,"success-count":0,"failed-count":0,"exit-code":0}',
+                (
+                    '{"status":"stress-cancelled","initial-iteration-count":null,'
+                    '"success-count":0,"failed-count":0,"exit-code":0}'
+                ),
                 '{"exit-code":0,"failed-count":0,"status":"stress-cancelled","success-count":0}',
             ),
             ('{"status":"Completed","passed":true}', '{"status":"unknown"}'),
@@ -230,12 +248,16 @@ OF_HEADS = [
         "test names",
         '"run-id":',
         '"rerun-info":{"parent-run-id":"650e8400-e29b-41d4-a716-446655440000",'
-        '"root-info":{"build-scope":{"build-kind":"cargo","scope":{}},"run-id":"650e8400-e29b-41d4-a716-446655440000"},'
-        '"test-suites":[{"binary_id":"b","outstanding":[],"passing":VALUE}]},"run-id":',
+        '"root-info":{"build-scope":{"build-kind":"cargo","scope":{}},'
+        '"run-id":"650e8400-e29b-41d4-a716-446655440000"},"test-suites":[{"binary_id":"b",'
+        '"outstanding":[],"passing":VALUE}]},"run-id":',
         "meta/rerun-info.json",
         '{"parent-run-id":"650e8400-e29b-41d4-a716-446655440000","root-info":{"build-scope":'
         + SCOPE
-        + ',"run-id":"650e8400-e29b-41d4-a716-446655440000"},"test-suites":[{"binary_id":"b","outstanding":[],"passing":VALUE}]}',
+        + (
+            ',"run-id":"650e8400-e29b-41d4-a716-446655440000"},"test-suites":[{"binary_id":"b",'
+            '"outstanding":[],"passing":VALUE}]}'
+        ),
         [
             ("[]", "[]"),
             ('["b","a","b","B"]', '["B","a","b"]'),
@@ -249,18 +271,20 @@ OF_HEADS = [
         "build scope of a rerun's root",
         '"run-id":',
         '"rerun-info":{"parent-run-id":"650e8400-e29b-41d4-a716-446655440000",'
-        '"root-info":{"build-scope":VALUE,"run-id":"750e8400-e29b-41d4-a716-446655440000"},"test-suites":[]},"run-id":',
+        '"root-info":{"build-scope":VALUE,"run-id":"750e8400-e29b-41d4-a716-446655440000"},'
+        '"test-suites":[]},"run-id":',
         "meta/rerun-info.json",
         '{"parent-run-id":"650e8400-e29b-41d4-a716-446655440000","root-info":{"build-scope":VALUE,'
         '"run-id":"750e8400-e29b-41d4-a716-446655440000"},"test-suites":[]}',
         [
             (
-                '{"build-kind":"cargo","scope":{"packages":{"specs":["p"],"exclude":["q"]},"targets":{"lib":true,'
-                '"bins":{"names":["b"]}},"features":{"features":["f"]}}}',
-                '{"build-kind":"cargo","scope":{"features":{"all-features":false,"features":["f"],"no-default-features":false},'
-                '"packages":{"exclude":["q"],"specs":["p"],"workspace":false},"targets":{"all-targets":false,'
-                '"benches":{"all":false,"names":[]},"bins":{"all":false,"names":["b"]},"examples":{"all":false,"names":[]},'
-                '"lib":true,"tests":{"all":false,"names":[]}}}}',
+                '{"build-kind":"cargo","scope":{"packages":{"specs":["p"],"exclude":["q"]},'
+                '"targets":{"lib":true,"bins":{"names":["b"]}},"features":{"features":["f"]}}}',
+                '{"build-kind":"cargo","scope":{"features":{"all-features":false,"features":["f"],'
+                '"no-default-features":false},"packages":{"exclude":["q"],"specs":["p"],'
+                '"workspace":false},"targets":{"all-targets":false,"benches":{"all":false,'
+                '"names":[]},"bins":{"all":false,"names":["b"]},"examples":{"all":false,'
+                '"names":[]},"lib":true,"tests":{"all":false,"names":[]}}}}',
             ),
             ('{"scope":{}}', REFUSED),
             ('{"build-kind":"cargo"}', REFUSED),
@@ -352,8 +376,9 @@ OF_HEADS = [
             ("{}", NO_TARGETS),
             (
                 '{"all-targets":true,"lib":true,"tests":{"all":true},"bins":{"names":["a"]}}',
-                '{"all-targets":true,"benches":{"all":false,"names":[]},"bins":{"all":false,"names":["a"]},'
-                '"examples":{"all":false,"names":[]},"lib":true,"tests":{"all":true,"names":[]}}',
+                '{"all-targets":true,"benches":{"all":false,"names":[]},"bins":{"all":false,'
+                '"names":["a"]},"examples":{"all":false,"names":[]},"lib":true,'
+                '"tests":{"all":true,"names":[]}}',
             ),
             ('{"all_targets":true}', NO_TARGETS),
             ('{"benches":[]}', REFUSED),
@@ -415,27 +440,31 @@ NO_HEADS = [
     (
         '"status":{',
         '"rerun-info":{"parent-run-id":"650e8400-e29b-41d4-a716-446655440000",'
-        '"root-info":{"run-id":"750e8400-e29b-41d4-a716-446655440000","build-scope":{"build-kind":"reused","scope":{}}},'
-        '"test-suites":[{"binary_id":"a","passing":[],"outstanding":[]},{"binary_id":"a","passing":["t"],'
-        '"outstanding":[]}]},"status":{',
+        '"root-info":{"run-id":"750e8400-e29b-41d4-a716-446655440000",'
+        '"build-scope":{"build-kind":"reused","scope":{}}},"test-suites":[{"binary_id":"a",'
+        '"passing":[],"outstanding":[]},{"binary_id":"a","passing":["t"],"outstanding":[]}]},'
+        '"status":{',
     ),
     (
         '"status":{',
         '"rerun-info":{"parent-run-id":"650e8400-e29b-41d4-a716-446655440000",'
-        '"root-info":{"run-id":"750e8400-e29b-41d4-a716-446655440000","build-scope":{"build-kind":"reused","scope":{}}},'
-        '"test-suites":[{"binary-id":"a","passing":[],"outstanding":[]}]},"status":{',
+        '"root-info":{"run-id":"750e8400-e29b-41d4-a716-446655440000",'
+        '"build-scope":{"build-kind":"reused","scope":{}}},"test-suites":[{"binary-id":"a",'
+        '"passing":[],"outstanding":[]}]},"status":{',
     ),
     (
         '"status":{',
         '"rerun-info":{"parent-run-id":"650e8400-e29b-41d4-a716-446655440000",'
-        '"root-info":{"run-id":"750e8400-e29b-41d4-a716-446655440000","build-scope":{"build-kind":"reused","scope":{}}},'
-        '"test-suites":{"a":{"passing":[],"outstanding":[]}}},"status":{',
+        '"root-info":{"run-id":"750e8400-e29b-41d4-a716-446655440000",'
+        '"build-scope":{"build-kind":"reused","scope":{}}},"test-suites":{"a":{"passing":[],'
+        '"outstanding":[]}}},"status":{',
     ),
     (
         '"status":{',
         '"rerun-info":{"parent-run-id":"650e8400-e29b-41d4-a716-446655440000",'
-        '"root-info":{"run-id":"750e8400-e29b-41d4-a716-446655440000","build-scope":{"build-kind":"reused","scope":{}}},'
-        '"test-suites":[{"binary_id":"a","passing":null,"outstanding":[]}]},"status":{',
+        '"root-info":{"run-id":"750e8400-e29b-41d4-a716-446655440000",'
+        '"build-scope":{"build-kind":"reused","scope":{}}},"test-suites":[{"binary_id":"a",'
+        '"passing":null,"outstanding":[]}]},"status":{',
     ),
 ]
 
@@ -448,32 +477,39 @@ FIELDS = (
 # Members in the place of `"status":{` in a head, and the entry of the store that is made of them.
 RERUN = (
     '"rerun-info":{"parent-run-id":"650e8400-e29b-41d4-a716-446655440000",'
-    '"root-info":{"run-id":"750e8400-e29b-41d4-a716-446655440000","build-scope":{"build-kind":"reused","scope":{}}},'
-    '"test-suites":[{"binary_id":"b","passing":[],"outstanding":["t"]},{"binary_id":"a","passing":["u","t","u"],'
+    '"root-info":{"run-id":"750e8400-e29b-41d4-a716-446655440000",'
+    '"build-scope":{"build-kind":"reused","scope":{}}},"test-suites":[{"binary_id":"b",'
+    '"passing":[],"outstanding":["t"]},{"binary_id":"a","passing":["u","t","u"],'
     '"outstanding":[]}]},"status":{'
 )
 STORED_RERUN = (
-    '{"parent-run-id":"650e8400-e29b-41d4-a716-446655440000","root-info":{"build-scope":{"build-kind":"reused","scope":'
+    (
+        '{"parent-run-id":"650e8400-e29b-41d4-a716-446655440000",'
+        '"root-info":{"build-scope":{"build-kind":"reused","scope":'
+    )
     + DEFAULTS
-    + '},"run-id":"750e8400-e29b-41d4-a716-446655440000"},"test-suites":[{"binary_id":"a","outstanding":[],"passing":["t","u"]},'
-    '{"binary_id":"b","outstanding":["t"],"passing":[]}]}'
+    + (
+        '},"run-id":"750e8400-e29b-41d4-a716-446655440000"},"test-suites":[{"binary_id":"a",'
+        '"outstanding":[],"passing":["t","u"]},{"binary_id":"b","outstanding":["t"],"passing":[]}]}'
+    )
 )
 
 # A manifest of an older store without the members that have defaults.
 SHORT_MANIFEST = (
-    '{"format-version":{"major":1,"minor":0},"run":{"last-written-at":{"nanos":0,"offset":0,"secs":1011},'
-    '"nextest-version":"0.9.111","run-id":"550e8400-e29b-41d4-a716-446655440000","sizes":{"log":{"compressed":1,'
-    '"uncompressed":2},"store":{"compressed":4,"entries":6,"uncompressed":5}},"started-at":{"nanos":0,"offset":0,"secs":1000},'
+    '{"format-version":{"major":1,"minor":0},"run":{"last-written-at":{"nanos":0,"offset":0,'
+    '"secs":1011},"nextest-version":"0.9.111","run-id":"550e8400-e29b-41d4-a716-446655440000",'
+    '"sizes":{"log":{"compressed":1,"uncompressed":2},"store":{"compressed":4,"entries":6,'
+    '"uncompressed":5}},"started-at":{"nanos":0,"offset":0,"secs":1000},'
     '"status":{"status":"incomplete"},"store-format-version":2}}'
 )
 
 
-def manifest_of(run):
+def manifest_of(run: bytes) -> bytes:
     """What is printed of a bundle with this manifest alone."""
     return container([(b"manifest.json", run)])
 
 
-def printed(name, part, place, rows):
+def printed(name: str, part: str, place: str, rows: Rows) -> Iterator[Case]:
     """The cases of texts in a manifest, which `info` prints anew."""
     for text, wanted in rows:
         manifest = MANIFEST_TEXT.replace(part, place.replace("VALUE", text), 1).encode()
@@ -486,42 +522,60 @@ def printed(name, part, place, rows):
             yield Case(f"{name} {text}", ("info",), manifest_of(manifest), out=out)
 
 
-def store_has(entry, wanted):
+def store_has(entry: bytes, wanted: bytes) -> Holds:
     return Holds(
-        f"a bundle with {entry} {wanted}",
+        f"a bundle with {entry!r} {wanted!r}",
         lambda data: entries(entries(data)[b"store.zip"])[entry] == wanted,
     )
 
 
-def stored(name, part, place, entry, content, rows):
+def stored(
+    name: str, part: str, place: str, entry: str, content: str, rows: Rows
+) -> Iterator[Case]:
     """The cases of texts in a head, of which an entry of the store is made."""
     for text, wanted in rows:
         head = HEAD_TEXT.replace(part, place.replace("VALUE", text), 1)
         if wanted is REFUSED:
-            yield Case(f"{name} {text}", ("record", "b"), session(head=head), 5, err=b"ParseHead\n")
+            yield Case(
+                f"{name} {text}",
+                ("record", "b"),
+                session(head=head.encode()),
+                5,
+                err=b"ParseHead\n",
+            )
         else:
             file = store_has(entry.encode(), content.replace("VALUE", wanted).encode())
-            yield Case(f"{name} {text}", ("record", "b"), session(head=head), out=SOME, file=file)
+            yield Case(
+                f"{name} {text}", ("record", "b"), session(head=head.encode()), out=SOME, file=file
+            )
 
 
-def status_of_head(text, wanted):
+def status_of_head(text: str, wanted: str | None) -> Case:
     head = HEAD_TEXT.replace('{"status":"incomplete"}', text)
     if wanted is REFUSED:
         return Case(
-            f"status of a head {text}", ("record", "b"), session(head=head), 5, err=b"ParseHead\n"
+            f"status of a head {text}",
+            ("record", "b"),
+            session(head=head.encode()),
+            5,
+            err=b"ParseHead\n",
         )
     file = entry_is(b"manifest.json", has(b'"status":' + wanted.encode()))
     return Case(
-        f"status of a head {text}", ("record", "b"), session(head=head), out=SOME, file=file
+        f"status of a head {text}",
+        ("record", "b"),
+        session(head=head.encode()),
+        out=SOME,
+        file=file,
     )
 
 
-def of_options(options):
+def of_options(options: str) -> bytes:
     """A bundle with these record options."""
     return bundle(b"", store(options.encode(), ONE_TEST), COUNTED_MANIFEST)
 
 
-def nested(depth, opening="[", closing="]"):
+def nested(depth: int, opening: str = "[", closing: str = "]") -> str:
     """Record options with this many arrays, or objects, in one another."""
     return '{"run-mode":"test","x":' + opening * depth + "0" + closing * depth + "}"
 
@@ -530,15 +584,17 @@ STATUSES = OF_MANIFESTS[-1][-1]
 WITH_FIELDS = has(
     b'"run":{"cli-args":["b","a"],"duration":{"nanos":5,"secs":11},"env-vars":{"A":"1","Z":"2"},'
     b'"last-written-at":{"nanos":0,"offset":0,"secs":1011},"nextest-version":"0.9.111",'
-    b'"parent-run-id":"650e8400-e29b-41d4-a716-446655440000","run-id":"550e8400-e29b-41d4-a716-446655440000",',
+    b'"parent-run-id":"650e8400-e29b-41d4-a716-446655440000",'
+    b'"run-id":"550e8400-e29b-41d4-a716-446655440000",',
     b'"started-at":{"nanos":0,"offset":0,"secs":1000},"status":{"status":"incomplete"}',
 )
 READ_SHORT_MANIFEST = (
     b'{"format-version":{"major":1,"minor":0},"run":{"cli-args":[],"env-vars":{},'
     b'"last-written-at":{"nanos":0,"offset":0,"secs":1011},"nextest-version":"0.9.111",'
-    b'"run-id":"550e8400-e29b-41d4-a716-446655440000","sizes":{"log":{"compressed":1,"entries":0,"uncompressed":2},'
-    b'"store":{"compressed":4,"entries":6,"uncompressed":5}},"started-at":{"nanos":0,"offset":0,"secs":1000},'
-    b'"status":{"status":"incomplete"},"store-format-minor-version":0,"store-format-version":3}}\n'
+    b'"run-id":"550e8400-e29b-41d4-a716-446655440000","sizes":{"log":{"compressed":1,"entries":0,'
+    b'"uncompressed":2},"store":{"compressed":4,"entries":6,"uncompressed":5}},'
+    b'"started-at":{"nanos":0,"offset":0,"secs":1000},"status":{"status":"incomplete"},'
+    b'"store-format-minor-version":0,"store-format-version":3}}\n'
 )
 NO_TEXT = COUNTED_MANIFEST.replace(b'"cli-args":[]', b'"cli-args":["\xff"]')
 UNREADABLE_OPTIONS = b"DeserializeMetadata file_name=meta/record-opts.json\n"
@@ -553,7 +609,7 @@ CASES = [
         Case(
             f"{part} as {other}",
             ("record", "b"),
-            session(head=HEAD_TEXT.replace(part, other, 1)),
+            session(head=HEAD_TEXT.replace(part, other, 1).encode()),
             5,
             err=b"ParseHead\n",
         )
@@ -562,14 +618,14 @@ CASES = [
     Case(
         "members of a run",
         ("record", "b"),
-        session(head=HEAD_TEXT.replace('"status":', FIELDS, 1)),
+        session(head=HEAD_TEXT.replace('"status":', FIELDS, 1).encode()),
         out=SOME,
         file=entry_is(b"manifest.json", WITH_FIELDS),
     ),
     Case(
         "rerun",
         ("record", "b"),
-        session(head=HEAD_TEXT.replace('"status":{', RERUN, 1)),
+        session(head=HEAD_TEXT.replace('"status":{', RERUN, 1).encode()),
         out=SOME,
         file=store_has(b"meta/rerun-info.json", STORED_RERUN.encode()),
     ),
@@ -587,11 +643,17 @@ CASES = [
     Case(
         "125 arrays in a head",
         ("record", "b"),
-        session(head=NESTED_HEAD),
+        session(head=NESTED_HEAD.encode()),
         out=SOME,
         file=NESTED_OPTIONS,
     ),
-    Case("126 arrays in a head", ("record", "b"), session(head=DEEPER_HEAD), 5, err=b"ParseHead\n"),
+    Case(
+        "126 arrays in a head",
+        ("record", "b"),
+        session(head=DEEPER_HEAD.encode()),
+        5,
+        err=b"ParseHead\n",
+    ),
     Case("126 arrays", ("replay",), of_options(nested(126)), out=HEADER),
     Case("127 arrays", ("replay",), of_options(nested(127)), 12, err=UNREADABLE_OPTIONS),
     Case("126 objects", ("replay",), of_options(nested(126, '{"a":', "}")), out=HEADER),

@@ -1,29 +1,24 @@
-"""Hostile input, and what comes of it: cut, overlong and endless bytes, entries that clash or are missing, failing devices.
+"""Hostile input, and what comes of it: cut, overlong and endless bytes, entries that clash or are
+missing, failing devices.
 
-Beside these, proved tests show what no input of the built program brings about. `python3 -m workshop.check_pages` looks whether they are
-there.
+Beside these, proved tests show what no input of the built program brings about. `python3 -m
+workshop.check_pages` looks whether they are there.
 
 - A source and sinks that take single bytes: `rec_program_tests`: `single_bytes_change_nothing`.
 - A source in pieces, of which a read fails: `rec_program_tests`: `faults_of_sources`;
   `rec_portable_tests`: `refusals_are_printed`.
-- Sinks in pieces, of which a write fails: `rec_program_tests`: `faults_of_the_bundle_leave_no_trace`,
-  `faults_of_the_trace_leave_the_bundle_whole`, `faults_of_standard_output`, `faults_of_other_sinks`.
+- Sinks in pieces, of which a write fails: `rec_program_tests`:
+  `faults_of_the_bundle_leave_no_trace`, `faults_of_the_trace_leave_the_bundle_whole`,
+  `faults_of_standard_output`, `faults_of_other_sinks`.
 - Names that don't tell the outputs of two tests apart: `rec_faults_tests`: `outputs_clash`.
 """
 
+from __future__ import annotations
+
+from rezovamy_runs.bundles.container import container
 from workshop.cases.case import SOME, Case
-from workshop.cases.made import (
-    ONE_TEST,
-    bundle,
-    end,
-    go_on,
-    log_of,
-    pause,
-    run,
-    run_end,
-    start,
-    store,
-)
+from workshop.cases.histories import end, go_on, pause, run, run_end, start
+from workshop.cases.made import ONE_TEST, bundle, log_of, store
 from workshop.cases.outlines import GROUPINGS, printed
 from workshop.cases.recorded_bundles import outputs_are
 from workshop.cases.texts import (
@@ -41,13 +36,15 @@ from workshop.cases.texts import (
     session_of,
 )
 from workshop.cases.trace_slices import RUN, marks, of_test
-from rezovamy_runs.bundles.container import container
 
 RECORD, INFO = ("record", "b"), ("info",)
 
 # The session of a pause alone, 479 bytes, and its bundle, 1194 bytes.
 SESSION = session_of(RUN_PAUSED)
-PAUSE_SIZES = b'"sizes":{"log":{"compressed":138,"entries":1,"uncompressed":138},"store":{"compressed":515,"entries":4,"uncompressed":377}}'
+PAUSE_SIZES = (
+    b'"sizes":{"log":{"compressed":138,"entries":1,"uncompressed":138},"store":{"compressed":515,'
+    b'"entries":4,"uncompressed":377}}'
+)
 BUNDLE = container(
     [
         (b"manifest.json", replaced(MANIFEST, NO_SIZES, PAUSE_SIZES)),
@@ -55,8 +52,8 @@ BUNDLE = container(
         (b"store.zip", container(METADATA)),
     ]
 )
-# Where its parts begin after the magic: tag, length of the name, name, length of the content and content of each entry, and the
-# end mark.
+# Where its parts begin after the magic: tag, length of the name, name, length of the content and
+# content of each entry, and the end mark.
 PARTS = (8, 9, 11, 24, 32, 498, 499, 501, 512, 520, 658, 659, 661, 670, 678, 1193)
 
 # A bundle whose log names an output that its store lacks.
@@ -74,8 +71,8 @@ ONE_OUTPUT = session_of(
 )
 STORED_ONCE = outputs_are([(b"out/ba7816bf8f01cfea-stdout", b"abc")])
 
-# A run, and tests on three slots: one goes on after a pause, one ends in it, and one starts in a pause that is the last. The run
-# ends in a pause, twice; and pauses and continuations come twice.
+# A run, and tests on three slots: one goes on after a pause, one ends in it, and one starts in a
+# pause that is the last. The run ends in a pause, twice; and pauses and continuations come twice.
 PAUSES = [
     run(1000),
     start(1000, 1, 0),
@@ -110,7 +107,7 @@ SLICES = [
 ]
 
 
-def cut(length):
+def cut(length: int) -> Case:
     """The case of the first bytes of the bundle."""
     fault = (
         b"BadMagic"
@@ -126,127 +123,93 @@ def cut(length):
     )
 
 
-# The name, the words, the input, the status, the line, what is printed, and what the file is then.
+# Hostile input, and what is next to it.
 HOSTILE = [
-    ("nothing hostile", RECORD, SESSION, 0, b"", PAUSE_ALONE, BUNDLE),
-    (
+    Case("nothing hostile", RECORD, SESSION, out=PAUSE_ALONE, file=BUNDLE),
+    Case(
         "the greatest limit",
         (*RECORD, "--session-limit", "18446744073709551615"),
         SESSION,
-        0,
-        b"",
-        PAUSE_ALONE,
-        BUNDLE,
+        out=PAUSE_ALONE,
+        file=BUNDLE,
     ),
-    ("one output of two tests", RECORD, ONE_OUTPUT, 0, b"", SOME, STORED_ONCE),
-    ("a full device", ("record", "/dev/full"), SESSION, 10, b"BundleFault\n", b"", None),
-    (
+    Case("one output of two tests", RECORD, ONE_OUTPUT, out=SOME, file=STORED_ONCE),
+    Case("a full device", ("record", "/dev/full"), SESSION, 10, err=b"BundleFault\n"),
+    Case(
         "a line of 128 nested arrays",
         RECORD,
         session_of(b"[" * 128 + b"]" * 128),
         5,
-        b"ParseEvent line_number=2\n",
-        b"",
-        None,
+        err=b"ParseEvent line_number=2\n",
     ),
-    (
+    Case(
         "a line of 100000 nested arrays",
         RECORD,
         session_of(b"[" * 100000),
         5,
-        b"ParseEvent line_number=2\n",
-        b"",
-        None,
+        err=b"ParseEvent line_number=2\n",
     ),
-    (
+    Case(
         "a byte more than a bundle",
         INFO,
         BUNDLE + b"\0",
         12,
-        b"ReadArchive fault=TrailingBytes at=1194\n",
-        b"",
-        None,
+        err=b"ReadArchive fault=TrailingBytes at=1194\n",
     ),
-    (
+    Case(
         "a content of the greatest length",
         INFO,
         b"nxtcont1\1\0\1a" + b"\xff" * 8,
         12,
-        b"ReadArchive fault=Truncated at=20\n",
-        b"",
-        None,
+        err=b"ReadArchive fault=Truncated at=20\n",
     ),
-    (
-        "a name without bytes",
-        INFO,
-        b"nxtcont1\1\0\0",
-        12,
-        b"ReadArchive fault=BadName at=9\n",
-        b"",
-        None,
+    Case(
+        "a name without bytes", INFO, b"nxtcont1\1\0\0", 12, err=b"ReadArchive fault=BadName at=9\n"
     ),
-    (
+    Case(
         "two manifests",
         INFO,
         container([(b"manifest.json", MANIFEST)] * 2),
         12,
-        b"ReadArchive fault=DuplicateName at=497\n",
-        b"",
-        None,
+        err=b"ReadArchive fault=DuplicateName at=497\n",
     ),
-    (
+    Case(
         "no byte for a limit of none",
         (*INFO, "--session-limit", "0"),
         b"",
         12,
-        b"ReadArchive fault=BadMagic\n",
-        b"",
-        None,
+        err=b"ReadArchive fault=BadMagic\n",
     ),
-    (
+    Case(
         "a byte for a limit of none",
         (*INFO, "--session-limit", "0"),
         b"n",
         4,
-        b"SpoolTooLarge limit=0\n",
-        b"",
-        None,
+        err=b"SpoolTooLarge limit=0\n",
     ),
-    ("the trace without an output", ("trace",), WITHOUT_OUTPUT, 0, b"", SMALL_TRACE, None),
-    (
+    Case("the trace without an output", ("trace",), WITHOUT_OUTPUT, out=SMALL_TRACE),
+    Case(
         "replay that loads a missing output",
         ("replay", "--output", "load"),
         WITHOUT_OUTPUT,
         13,
-        b"RecordRead FileNotFound file_name=out/ba7816bf8f01cfea-stdout\n",
-        b"",
-        None,
+        err=b"RecordRead FileNotFound file_name=out/ba7816bf8f01cfea-stdout\n",
     ),
-    (
+    Case(
         "replay that skips a missing output",
         ("replay", "--output", "skip"),
         WITHOUT_OUTPUT,
-        0,
-        b"",
-        REPLAYED,
-        None,
+        out=REPLAYED,
     ),
-    (
+    Case(
         "replay of a whole bundle",
         ("replay",),
         BUNDLE,
-        0,
-        b"",
-        b"header 550e8400-e29b-41d4-a716-446655440000 incomplete\n1002.000000000 run-paused\n",
-        None,
+        out=b"header 550e8400-e29b-41d4-a716-446655440000 incomplete\n1002.000000000 run-paused\n",
     ),
 ]
 
-CASES = [
-    Case(name, words, given, status, out, line, file)
-    for name, words, given, status, line, out, file in HOSTILE
-]
-CASES += [Case("no bytes, and nowhere to say so", RECORD, b"", 5, device="/dev/full")]
+CASES = [*HOSTILE, Case("no bytes, and nowhere to say so", RECORD, b"", 5, device="/dev/full")]
 CASES += [
     Case(
         "a pause, and nowhere to say so",

@@ -1,7 +1,9 @@
 """Instants at the ends of what a trace can draw: its microseconds are an i64, rounded down."""
 
+from __future__ import annotations
+
 from workshop.cases.case import Case
-from workshop.cases.made import run, traced_bundle
+from workshop.cases.histories import run, traced_bundle
 from workshop.cases.outlines import outline
 
 # The seconds and nanoseconds of instants, and their microseconds.

@@ -1,27 +1,26 @@
-"""What results count as: a success of a flaky test, a failed test of the counter, and a skipped test of the report."""
+"""What results count as: a success of a flaky test, a failed test of the counter, and a skipped
+test of the report.
+"""
+
+from __future__ import annotations
 
 import json
+from collections.abc import Sequence
 
-from workshop.cases.case import SOME, Case, both, has, lacks
-from workshop.cases.made import (
-    ONE_TEST,
+from workshop.cases.case import SOME, Case, Wanted, both, has, lacks
+from workshop.cases.events import (
     TIMES,
-    bundle,
     course,
-    duration,
-    instant,
-    log_of,
     run_finished,
     run_started,
-    session,
     sorted_stats,
     status,
-    store,
     test,
     test_finished,
     test_skipped,
     test_started,
 )
+from workshop.cases.made import ONE_TEST, Members, bundle, duration, instant, log_of, session, store
 from workshop.cases.texts import COUNTED_MANIFEST
 
 NO_COUNTS_YET = sorted_stats(initial_run_count=1)
@@ -38,7 +37,8 @@ RESULTS = [
     ({"fail": {"failure": {"abort": {"signal": 0, "name": ""}}, "leaked": False}}, False),
 ]
 FLAKY_FAILURE = has(
-    b'"error":{"description":"test passed on attempt 2/3 but is configured to fail when flaky","short_message":"flaky failure"}'
+    b'"error":{"description":"test passed on attempt 2/3 but is configured to fail when flaky",'
+    b'"short_message":"flaky failure"}'
 )
 SOME_FAILED = {"failed": 1, "exec-failed": 2, "failed-timed-out": 4, "failed-slow": 8}
 
@@ -53,11 +53,12 @@ REASONS = [
 ]
 
 
-def line_of(members):
-    return json.dumps(TIMES | members)
+def line_of(members: Members) -> str:
+    """Return the line of an event at second 0."""
+    return json.dumps({**TIMES, **members})
 
 
-def recorded(results, flaky_result, failed):
+def recorded(results: Sequence[object], flaky_result: str, failed: Members) -> bytes:
     """The session of a test with these results, and so many failed tests at its end."""
     attempts = [
         status(number, 3, course({"start-error": ""}, result, instant(0), duration(0)))
@@ -66,18 +67,18 @@ def recorded(results, flaky_result, failed):
     end = test_finished(
         *attempts,
         of=T1,
-        counts=NO_COUNTS_YET | failed,
+        counts={**NO_COUNTS_YET, **failed},
         stores=(False, False),
         flaky=("failure", flaky_result),
     )
     return session(line_of(test_started(T1, counts=NO_COUNTS_YET)), line_of(end))
 
 
-def traced(name, source, out):
+def traced(name: str, source: bytes, out: Wanted) -> Case:
     return Case(name, ("record", "b"), source, out=out, file=SOME)
 
 
-def reported(reason, said, policy, is_reported):
+def reported(reason: str, said: bytes, policy: str, is_reported: bool) -> Case:
     """The report of a run in which a test was skipped."""
     skip, end = test_skipped("t1", reason, policy, "alpha::a"), run_finished(
         {"single": NO_COUNTS_YET}, 0, duration(0)

@@ -1,18 +1,10 @@
 """Outputs that a report shows, found in the store by the names that the log has for them."""
 
+from __future__ import annotations
+
 from workshop.cases.case import Case
-from workshop.cases.made import (
-    OPTIONS,
-    RUN_FINISHED,
-    attempt,
-    captured,
-    compact,
-    log,
-    run_bundle,
-    store,
-    test,
-    test_finished,
-)
+from workshop.cases.events import RUN_FINISHED, attempt, captured, test, test_finished
+from workshop.cases.made import OPTIONS, compact, log, run_bundle, store
 from workshop.cases.reports import says
 
 # How the output of a test stands in the log, the name of its file, and where a report shows it.
@@ -40,7 +32,7 @@ NAMED = [
 ]
 
 
-def shown(output, name, place):
+def shown(output: object, name: str, place: str) -> Case:
     """A test with this output passed, and the store has a file of that name and another one."""
     events = [
         test_finished(attempt(captured(output), "pass", total=1), of=test("t", "bin")),

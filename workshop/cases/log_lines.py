@@ -1,5 +1,7 @@
 """The lines of a log by their numbers, with and without an LF at the end."""
 
+from __future__ import annotations
+
 from workshop.cases.case import SOME, Case
 from workshop.cases.made import logged_bundle
 from workshop.cases.texts import RUN_STARTED
@@ -18,11 +20,11 @@ LOGS = [
 ]
 
 
-def of_log(log, number):
+def of_log(log: bytes, number: int | None) -> Case:
     if number is None:
-        return Case(f"{log}", ("trace",), logged_bundle(log), out=SOME)
+        return Case(f"{log!r}", ("trace",), logged_bundle(log), out=SOME)
     return Case(
-        f"{log}",
+        f"{log!r}",
         ("trace",),
         logged_bundle(log),
         5,

@@ -1,12 +1,21 @@
-"""Values that are no events: without a member that has to be there, with null for it, or with another value in its place."""
+"""Values that are no events: without a member that has to be there, with null for it, or with
+another value in its place.
+"""
 
+from __future__ import annotations
+
+from collections.abc import Callable, Iterator, Sequence
+from typing import TypeAlias
+
+from workshop.cases.case import Case
+from workshop.cases.events import NO_COUNTS, stats
 from workshop.cases.line_cases import (
     read_of_log,
     read_of_session,
     refused_in_log,
     refused_in_session,
 )
-from workshop.cases.made import NO_COUNTS, stats, text
+from workshop.cases.made import text
 from workshop.cases.texts import attempt_with, end_after
 
 MISSING = '"y":0'  # stands for a missing member, and is ignored
@@ -17,8 +26,9 @@ NO_SKIPPED = NO_STATS.replace(',"skipped":0', "")
 
 # An attempt that was not executed.
 NOT_EXECUTED = (
-    '{"retry-data":{"attempt":1,"total-attempts":1},"output":{"start-error":""},"result":"exec-fail","start-time":{"secs":0,'
-    '"nanos":0,"offset":0},"time-taken":{"secs":0,"nanos":0},"is-slow":false,"delay-before-start":{"secs":0,"nanos":0}}'
+    '{"retry-data":{"attempt":1,"total-attempts":1},"output":{"start-error":""},'
+    '"result":"exec-fail","start-time":{"secs":0,"nanos":0,"offset":0},"time-taken":{"secs":0,'
+    '"nanos":0},"is-slow":false,"delay-before-start":{"secs":0,"nanos":0}}'
 )
 
 # The members of each kind, but for those that may be missing; and members that it has not.
@@ -231,7 +241,10 @@ RUN_END = [
     ("run-elapsed", '{"secs":9,"nanos":0}'),
     (
         "run-stats",
-        '{"stress":{"completed":{"current":0},"success-count":1,"failed-count":0,"last-final-stats":"success"}}',
+        (
+            '{"stress":{"completed":{"current":0},"success-count":1,"failed-count":0,'
+            '"last-final-stats":"success"}}'
+        ),
     ),
 ]
 
@@ -255,11 +268,17 @@ NO_RUN_END = [
     ("run-stats", '{"single":null}'),
     (
         "run-stats",
-        '{"stress":{"completed":0,"success-count":1,"failed-count":0,"last-final-stats":"success"}}',
+        (
+            '{"stress":{"completed":0,"success-count":1,"failed-count":0,'
+            '"last-final-stats":"success"}}'
+        ),
     ),
     (
         "run-stats",
-        '{"stress":{"completed":{"current":0},"success-count":4294967296,"failed-count":0,"last-final-stats":"success"}}',
+        (
+            '{"stress":{"completed":{"current":0},"success-count":4294967296,"failed-count":0,'
+            '"last-final-stats":"success"}}'
+        ),
     ),
     (
         "run-stats",
@@ -267,11 +286,17 @@ NO_RUN_END = [
     ),
     (
         "run-stats",
-        '{"stress":{"completed":{"current":0},"success-count":1,"failed-count":0,"last-final-stats":"Success"}}',
+        (
+            '{"stress":{"completed":{"current":0},"success-count":1,"failed-count":0,'
+            '"last-final-stats":"Success"}}'
+        ),
     ),
     (
         "run-stats",
-        '{"stress":{"completed":{"current":0},"success-count":1,"failed-count":0,"last-final-stats":"success"},"x":0}',
+        (
+            '{"stress":{"completed":{"current":0},"success-count":1,"failed-count":0,'
+            '"last-final-stats":"success"},"x":0}'
+        ),
     ),
 ]
 
@@ -285,8 +310,8 @@ SCRIPT_END = [
     ("no-capture", "false"),
     (
         "run-status",
-        '{"output":{"start-error":""},"result":"pass","start-time":{"secs":0,"nanos":0,"offset":0},"time-taken":{"secs":0,'
-        '"nanos":0},"is-slow":false}',
+        '{"output":{"start-error":""},"result":"pass","start-time":{"secs":0,"nanos":0,'
+        '"offset":0},"time-taken":{"secs":0,"nanos":0},"is-slow":false}',
     ),
 ]
 
@@ -305,8 +330,8 @@ NO_SCRIPT_END = [
     ("run-status", "[]"),
     (
         "run-status",
-        '{"retry-data":{"attempt":1,"total-attempts":1},"result":"pass","start-time":{"secs":0,"nanos":0,"offset":0},'
-        '"time-taken":{"secs":0,"nanos":0},"is-slow":false}',
+        '{"retry-data":{"attempt":1,"total-attempts":1},"result":"pass","start-time":{"secs":0,'
+        '"nanos":0,"offset":0},"time-taken":{"secs":0,"nanos":0},"is-slow":false}',
     ),
 ]
 
@@ -386,10 +411,12 @@ NO_STATUSES = [
     ("run-statuses", '{"statuses":[' + NOT_EXECUTED + '],"flaky-result":true}'),
 ]
 
-# The end of a setup script, up to its status; the members of that, by their places; and members that it has not.
+# The end of a setup script, up to its status; the members of that, by their places; and members
+# that it has not.
 BEFORE_SCRIPT_STATUS = (
-    '{"timestamp":{"secs":0,"nanos":0,"offset":0},"elapsed":{"secs":0,"nanos":0},"kind":"setup-script-finished","index":0,'
-    '"total":1,"script-id":"db","program":"sh","args":[],"no-capture":false,"run-status":'
+    '{"timestamp":{"secs":0,"nanos":0,"offset":0},"elapsed":{"secs":0,"nanos":0},'
+    '"kind":"setup-script-finished","index":0,"total":1,"script-id":"db","program":"sh","args":[],'
+    '"no-capture":false,"run-status":'
 )
 
 SCRIPT_STATUS = [
@@ -433,8 +460,9 @@ NO_SCRIPT_STATUS = [
 
 # The same of an attempt that failed.
 BEFORE_ATTEMPT = (
-    '{"timestamp":{"secs":0,"nanos":0,"offset":0},"elapsed":{"secs":0,"nanos":0},"kind":"test-attempt-failed-will-retry",'
-    '"test-instance":{"binary-id":"alpha::a","test-name":"t1"},"delay-before-next-attempt":{"secs":1,"nanos":0},'
+    '{"timestamp":{"secs":0,"nanos":0,"offset":0},"elapsed":{"secs":0,"nanos":0},'
+    '"kind":"test-attempt-failed-will-retry","test-instance":{"binary-id":"alpha::a",'
+    '"test-name":"t1"},"delay-before-next-attempt":{"secs":1,"nanos":0},'
     '"failure-output":"immediate","running":0,"run-status":'
 )
 
@@ -507,7 +535,10 @@ NO_RUN_START = [
 ]
 
 TEST_START = [
-    '"timestamp":{"secs":1000,"nanos":0,"offset":0},"elapsed":{"secs":0,"nanos":0},"kind":"test-started"',
+    (
+        '"timestamp":{"secs":1000,"nanos":0,"offset":0},"elapsed":{"secs":0,"nanos":0},'
+        '"kind":"test-started"'
+    ),
     '"test-instance":{"binary-id":"alpha::a","test-name":"t1"}',
     '"slot-assignment":{"global-slot":0,"test-group":"@global"}',
     '"current-stats":' + NO_COUNTS,
@@ -550,25 +581,48 @@ NO_OBJECTS = ["null", "1", '"run-started"', "[]", "{}"]
 
 WITHOUT_TIMES = [
     '{"elapsed":{"secs":0,"nanos":0},"kind":"run-paused","setup-scripts-running":0,"running":0}',
-    '{"timestamp":{"secs":0,"nanos":0,"offset":0},"kind":"run-paused","setup-scripts-running":0,"running":0}',
-    '{"timestamp":null,"elapsed":{"secs":0,"nanos":0},"kind":"run-paused","setup-scripts-running":0,"running":0}',
-    '{"timestamp":{"secs":0,"nanos":0,"offset":0},"elapsed":0,"kind":"run-paused","setup-scripts-running":0,"running":0}',
+    (
+        '{"timestamp":{"secs":0,"nanos":0,"offset":0},"kind":"run-paused",'
+        '"setup-scripts-running":0,"running":0}'
+    ),
+    (
+        '{"timestamp":null,"elapsed":{"secs":0,"nanos":0},"kind":"run-paused",'
+        '"setup-scripts-running":0,"running":0}'
+    ),
+    (
+        '{"timestamp":{"secs":0,"nanos":0,"offset":0},"elapsed":0,"kind":"run-paused",'
+        '"setup-scripts-running":0,"running":0}'
+    ),
 ]
 
 
-def event_of(members):
+# What makes a case of a name and a line, and the members of an event with their JSON.
+CaseOf: TypeAlias = Callable[[str, str], Case]
+Fields: TypeAlias = Sequence[tuple[str, str]]
+
+
+def event_of(members: Fields) -> str:
     times = '{"timestamp":{"secs":1000,"nanos":0,"offset":0},"elapsed":{"secs":0,"nanos":0}'
     return times + "".join(f',"{key}":{value}' for key, value in members) + "}"
 
 
-def object_of(members, at=None, other=None):
+def object_of(members: Sequence[str], at: int | None = None, other: str = "") -> str:
     """The object of these members, with another in the place of the one at `at`."""
     chosen = [other if number == at else member for number, member in enumerate(members)]
     return ",".join(['{"x":0', *chosen]) + "}"
 
 
-def required(name, read, refused, members, others, tried=()):
-    """The members make an event; none without one of them, with null for it, or with another member in its place.
+def required(
+    name: str,
+    read: CaseOf,
+    refused: CaseOf,
+    members: Fields,
+    others: Fields,
+    tried: Sequence[str] = (),
+) -> Iterator[Case]:
+    """The members make an event.
+
+    None without one of them, with null for it, or with another member in its place.
 
     Without those that are `tried`, the event is one of another kind that is tried already.
     """
@@ -582,8 +636,18 @@ def required(name, read, refused, members, others, tried=()):
         yield refused(f"{name} with {key} {other}", event_of([*rest, (key, other)]))
 
 
-def replaced(name, read, refused, members, others, before="", after=""):
-    """The members make what stands between these texts, and not with another in the place of one of them."""
+def replaced(
+    name: str,
+    read: CaseOf,
+    refused: CaseOf,
+    members: Sequence[str],
+    others: Sequence[tuple[int, str]],
+    before: str = "",
+    after: str = "",
+) -> Iterator[Case]:
+    """The members make what stands between these texts, and not with another in the place of one of
+    them.
+    """
     yield read(name, before + object_of(members) + after)
     for at, other in others:
         yield refused(

@@ -1,6 +1,12 @@
 """Which bundles are opened, what `info` and `trace` print of them, and why others are refused."""
 
-from workshop.cases.case import SOME, Case, Recorded
+from __future__ import annotations
+
+from collections.abc import Iterator
+from typing import NamedTuple
+
+from rezovamy_runs.bundles.container import container
+from workshop.cases.case import SOME, Case, Recorded, Wanted
 from workshop.cases.made import bundle, held, log_of
 from workshop.cases.texts import (
     COUNTED_MANIFEST,
@@ -17,7 +23,6 @@ from workshop.cases.texts import (
     SMALL_TRACE_BY_SLOT,
     replaced,
 )
-from rezovamy_runs.bundles.container import container
 
 COMMANDS = ("info", "trace")
 MANIFEST_LINE = MANIFEST + b"\n"
@@ -43,7 +48,8 @@ DAMAGED = [
         b"ReadArchive fault=DuplicateName at=24\n",
     ),
     (
-        b"nxtcont1\x01\0\x01b\0\0\0\0\0\0\0\0\x01\0\x01a\0\0\0\0\0\0\0\0\x01\0\x01a\0\0\0\0\0\0\0\0",
+        b"nxtcont1\x01\0\x01b\0\0\0\0\0\0\0\0\x01\0\x01a\0\0\0\0\0\0\0\0"
+        b"\x01\0\x01a\0\0\0\0\0\0\0\0",
         b"ReadArchive fault=DuplicateName at=35\n",
     ),
     (b"nxtcont1\0", b"NotAWrapperArchive file_count=0 zip_count=0\n"),
@@ -83,7 +89,7 @@ STORE_3_2 = b'"store-format-minor-version":2,"store-format-version":3'
 STORE_2, STORE_4 = b'"store-format-version":2', b'"store-format-version":4'
 
 
-def manifest(format_version, store_version):
+def manifest(format_version: bytes, store_version: bytes) -> bytes:
     """A manifest of these versions, with other sizes than those of a head alone."""
     return replaced(
         replaced(COUNTED_MANIFEST, FORMAT_1_1, format_version), STORE_3_1, store_version
@@ -94,13 +100,19 @@ CURRENT = bundle(manifest=MANIFEST_3_0)
 EMPTY = bundle(manifest=b"{}")
 
 
-def bundle_with(name):
+def bundle_with(name: bytes) -> bytes:
     """The bundle of a manifest and another entry."""
     return held((b"manifest.json", MANIFEST_3_0), (name, b"kept"))
 
 
-OTHER_BUNDLE = b"UnsupportedFormatVersion found=2.%d supported=1.1 incompatibility=MajorMismatch recording_major=2 supported_major=1\n"
-NEWER_BUNDLE = b"UnsupportedFormatVersion found=1.2 supported=1.1 incompatibility=MinorTooNew recording_minor=2 supported_minor=1\n"
+OTHER_BUNDLE = (
+    b"UnsupportedFormatVersion found=2.%d supported=1.1 incompatibility=MajorMismatch "
+    b"recording_major=2 supported_major=1\n"
+)
+NEWER_BUNDLE = (
+    b"UnsupportedFormatVersion found=1.2 supported=1.1 incompatibility=MinorTooNew "
+    b"recording_minor=2 supported_minor=1\n"
+)
 
 # What stands in the place of a text of the manifest, and why the manifest isn't read then.
 REFUSED_MANIFESTS = [
@@ -112,20 +124,20 @@ REFUSED_MANIFESTS = [
     (
         STORE_3_1,
         b'"store-format-version":1',
-        b"UnsupportedStoreFormatVersion found=1.0 supported=3.1 incompatibility=RecordingTooOld recording_major=1 "
-        b"supported_major=3 guidance=Discard last_nextest_version=0.9.130\n",
+        b"UnsupportedStoreFormatVersion found=1.0 supported=3.1 incompatibility=RecordingTooOld "
+        b"recording_major=1 supported_major=3 guidance=Discard last_nextest_version=0.9.130\n",
     ),
     (
         STORE_3_1,
         b'"store-format-version":0',
-        b"UnsupportedStoreFormatVersion found=0.0 supported=3.1 incompatibility=RecordingTooOld recording_major=0 "
-        b"supported_major=3 guidance=Unknown\n",
+        b"UnsupportedStoreFormatVersion found=0.0 supported=3.1 incompatibility=RecordingTooOld "
+        b"recording_major=0 supported_major=3 guidance=Unknown\n",
     ),
     (
         STORE_3_1,
         STORE_4,
-        b"UnsupportedStoreFormatVersion found=4.0 supported=3.1 incompatibility=RecordingTooNew recording_major=4 "
-        b"supported_major=3\n",
+        b"UnsupportedStoreFormatVersion found=4.0 supported=3.1 incompatibility=RecordingTooNew "
+        b"recording_major=4 supported_major=3\n",
     ),
     (STORE_3_1, STORE_3_2, NEWER_STORE),
 ]
@@ -178,43 +190,53 @@ NO_BUNDLES = (
 
 LATE = replaced(RUN_STARTED, b'"secs":1000', b'"secs":9223372036854775807')
 
-# Logs by what they hold, and the status and the line of their traces.
+
+class Log(NamedTuple):
+    """What a log holds, the log, and the status and the line of its trace."""
+
+    name: str
+    log: bytes
+    status: int
+    line: bytes
+
+
 LOGS = [
-    ("a run", log_of(RUN_STARTED, b"", b""), 0, b""),
-    (
+    Log("a run", log_of(RUN_STARTED, b"", b""), 0, b""),
+    Log(
         "no event after a run",
         log_of(RUN_STARTED, b"", b"{}"),
         5,
         b"ReadError ParseEvent line_number=3\n",
     ),
-    (
+    Log(
         "a second run",
         log_of(RUN_STARTED, b"", RUN_STARTED),
         8,
         b"SpanAlreadyOpen event=2 span=Run\n",
     ),
-    (
+    Log(
         "no event after two runs",
         log_of(RUN_STARTED, RUN_STARTED, b"{}"),
         8,
         b"SpanAlreadyOpen event=2 span=Run\n",
     ),
-    (
+    Log(
         "no event before two runs",
         log_of(b"{}", RUN_STARTED, RUN_STARTED),
         5,
         b"ReadError ParseEvent line_number=1\n",
     ),
-    ("a pause", log_of(RUN_STARTED, RUN_PAUSED, b""), 0, b""),
-    ("an instant out of range", log_of(LATE, b"", b""), 9, b"TimestampOutOfRange event=1\n"),
-    ("a line that is no text", b"\n\xff\n{}", 5, b"ReadError ReadRunLog line_number=2\n"),
+    Log("a pause", log_of(RUN_STARTED, RUN_PAUSED, b""), 0, b""),
+    Log("an instant out of range", log_of(LATE, b"", b""), 9, b"TimestampOutOfRange event=1\n"),
+    Log("a line that is no text", b"\n\xff\n{}", 5, b"ReadError ReadRunLog line_number=2\n"),
 ]
 
 # A run that is paused, a blank line, a line that is no event, and a run that goes on.
 PAUSED_LOG = (
-    b'{"elapsed":{"nanos":0,"secs":2},"kind":"run-paused","running":1,"setup-scripts-running":0,"timestamp":{"nanos":0,'
-    b'"offset":0,"secs":1002}}\n\nno event\n{"elapsed":{"nanos":0,"secs":3},"kind":"run-continued","running":1,'
-    b'"setup-scripts-running":0,"timestamp":{"nanos":0,"offset":0,"secs":1003}}\n'
+    b'{"elapsed":{"nanos":0,"secs":2},"kind":"run-paused","running":1,"setup-scripts-running":0,'
+    b'"timestamp":{"nanos":0,"offset":0,"secs":1002}}\n\nno event\n{"elapsed":{"nanos":0,"secs":3},'
+    b'"kind":"run-continued","running":1,"setup-scripts-running":0,"timestamp":{"nanos":0,'
+    b'"offset":0,"secs":1003}}\n'
 )
 
 BLANKS = bundle(b" " * 1000, b"", MANIFEST_3_0)
@@ -236,12 +258,12 @@ SPOOLED = [
 ]
 
 
-def printed(status):
+def printed(status: int) -> Wanted:
     """What is said of standard output at the end with this status."""
     return SOME if status == 0 else b""
 
 
-def short_enough(name, option, length, status, line):
+def short_enough(name: str, option: str, length: int, status: int, line: bytes) -> Iterator[Case]:
     """A bundle that is just short enough for a limit, and too long for the one below."""
     yield Case(name, ("info", option, str(length)), CURRENT, out=MANIFEST_3_0 + b"\n")
     yield Case(

@@ -1,46 +1,58 @@
-"""Cases of traces: what `record` prints of a session and `trace` of a bundle with the same events, by texts and by outlines."""
+"""Cases of traces: what `record` prints of a session and `trace` of a bundle with the same events,
+by texts and by outlines.
+"""
+
+from __future__ import annotations
 
 import json
 import re
+from collections.abc import Sequence
+from typing import Any, TypeAlias
 
-from workshop.cases.case import Beside, Case, Holds, begins
-from workshop.cases.made import text, traced_bundle, traced_session
 from rezovamy_runs.bundles.container import MAGIC
+from workshop.cases.case import Beside, Case, Holds, Wanted, Words, begins
+from workshop.cases.histories import Line, traced_bundle, traced_session
+from workshop.cases.made import text
 
 TRACE = re.compile(rb'\{"displayTimeUnit":"ms","otherData":(\{.*?\}),"traceEvents":\[(.*)\]\}')
+# A trace event, by its members.
+TraceEvent: TypeAlias = dict[str, Any]
 GROUPINGS = ("binary", "slot")
 
 
-def unwrapped(lines):
+def unwrapped(lines: str) -> str:
     """A text in which a line that begins with four blanks goes on with the one before."""
     return lines.replace("\n    ", "")
 
 
-def events_of(trace):
+def events_of(trace: bytes) -> bytes | None:
     """The text of the trace events of a trace in one line, None where this is no trace."""
     found = TRACE.fullmatch(trace)
     return found[2] if found else None
 
 
-def listed(trace):
+def listed(trace: bytes) -> list[TraceEvent] | None:
     """The trace events of a trace in one line, None where this is no trace."""
     events = events_of(trace)
     return None if events is None else json.loads(b"[" + events + b"]")
 
 
-def details(event):
+def details(event: TraceEvent) -> str:
     """The number of an arrow, and the args of what is no slice, each after a blank."""
     if event["ph"] in "BE":
         return ""
     return " " + text(event.get("id" if event["ph"] in "sf" else "args"))
 
 
-def event_line(event):
+def event_line(event: TraceEvent) -> str:
     """A trace event by its phase, category, name, row and instant, with its details."""
-    return f"{event['ph']} {event['cat']}:{event['name']} {event['pid']}/{event['tid']} {event['ts']}{details(event)}\n"
+    return (
+        f"{event['ph']} {event['cat']}:{event['name']} {event['pid']}/{event['tid']} "
+        f"{event['ts']}{details(event)}\n"
+    )
 
 
-def outline_of(trace, phases):
+def outline_of(trace: bytes, phases: str) -> str | None:
     """The trace events of these phases, a line for each, None where this is no trace."""
     events = listed(trace)
     return (
@@ -50,14 +62,14 @@ def outline_of(trace, phases):
     )
 
 
-def outline(phases, lines):
+def outline(phases: str, lines: str) -> Holds:
     """A trace that has this outline."""
     return Holds(
         f"a trace with the outline {lines!r}", lambda trace: outline_of(trace, phases) == lines
     )
 
 
-def after(before, lines):
+def after(before: bytes, lines: str) -> Holds:
     """A trace that has the trace events of an earlier one, and then these, each in a line."""
     earlier = events_of(before)
     events = b",".join([*([earlier] if earlier else []), *unwrapped(lines).encode().splitlines()])
@@ -66,11 +78,17 @@ def after(before, lines):
     )
 
 
-def options(group_by, message_format="json"):
+def options(group_by: str, message_format: str = "json") -> Words:
     return "--group-by", group_by, "--message-format", message_format
 
 
-def printed(name, lines, out, group_by="binary", message_format="json"):
+def printed(
+    name: str,
+    lines: Sequence[Line],
+    out: Wanted,
+    group_by: str = "binary",
+    message_format: str = "json",
+) -> list[Case]:
     """The cases of events whose trace is this, or of which that is said."""
     words = options(group_by, message_format)
     return [
@@ -85,13 +103,17 @@ def printed(name, lines, out, group_by="binary", message_format="json"):
     ]
 
 
-def outlined(name, phases, lines, wanted):
+def outlined(name: str, phases: str, lines: Sequence[Line], wanted: str) -> list[Case]:
     """The cases of events whose trace by binary has this outline."""
     return printed(name, lines, outline(phases, wanted))
 
 
-def drawn(name, before, last, wanted, group_by="binary"):
-    """The cases of an event that draws these trace events after those before it, which draw what they draw without it."""
+def drawn(
+    name: str, before: Sequence[Line], last: Line, wanted: str, group_by: str = "binary"
+) -> list[Case]:
+    """The cases of an event that draws these trace events after those before it, which draw what
+    they draw without it.
+    """
     words, lines = options(group_by), [*before, last]
     live, logged = (
         Beside(form(before), lambda trace: after(trace, wanted))
@@ -109,24 +131,27 @@ def drawn(name, before, last, wanted, group_by="binary"):
     ]
 
 
-def kinds_of(lines):
+def kinds_of(lines: Sequence[Line]) -> str:
     """The kinds of these events, and when the last of them is."""
-    return f"{', '.join(line.members['kind'] if line.members else 'no event' for line in lines)} at {lines[-1].secs}"
+    kinds = [str(line.members["kind"]) if line.members else "no event" for line in lines]
+    return f"{', '.join(kinds)} at {lines[-1].secs}"
 
 
-def refused_by_record(lines, status, line, group_by):
+def refused_by_record(lines: Sequence[Line], status: int, line: str, group_by: str) -> Case:
     words = ("record", "b", *options(group_by))
     name = f"{kinds_of(lines)}: {line}, record by {group_by}"
     return Case(name, words, traced_session(lines), status, err=f"{line}\n".encode())
 
 
-def refused_by_trace(lines, status, line, group_by):
+def refused_by_trace(lines: Sequence[Line], status: int, line: str, group_by: str) -> Case:
     words = ("trace", *options(group_by))
     name = f"{kinds_of(lines)}: {line}, trace by {group_by}"
     return Case(name, words, traced_bundle(lines), status, err=f"{line}\n".encode())
 
 
-def refused(lines, status, line, groupings=GROUPINGS):
+def refused(
+    lines: Sequence[Line], status: int, line: str, groupings: Sequence[str] = GROUPINGS
+) -> list[Case]:
     """The cases of events that neither command draws."""
     return [
         form(lines, status, line, group_by)

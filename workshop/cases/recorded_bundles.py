@@ -1,11 +1,20 @@
-"""What `record` writes: a bundle byte by byte, the outputs and the metadata in its store, and the limits of all."""
+"""What `record` writes: a bundle byte by byte, the outputs and the metadata in its store, and the
+limits of all.
+"""
 
+from __future__ import annotations
+
+from collections.abc import Sequence
+
+from rezovamy_runs.bundles.container import container, entries
 from workshop.cases.case import (
     ANY,
     SOME,
     Case,
+    Entry,
     Holds,
     Recorded,
+    Wanted,
     both,
     entry_is,
     has,
@@ -14,21 +23,25 @@ from workshop.cases.case import (
     of_length,
     outputs,
 )
+from workshop.cases.events import (
+    captured,
+    course,
+    script_ended,
+    script_members,
+    script_started,
+    starts_of,
+)
 from workshop.cases.line_cases import RUN_LOG, written
 from workshop.cases.made import (
     BENCHMARK,
     INCOMPLETE,
-    captured,
+    Members,
     compact,
-    course,
     duration,
     instant,
     line,
     log_of,
-    script_ended,
-    script_started,
     session,
-    starts_of,
 )
 from workshop.cases.texts import (
     BUILD_SCOPE,
@@ -49,12 +62,11 @@ from workshop.cases.texts import (
     session_of,
 )
 from workshop.cases.whole_bundles import whole
-from rezovamy_runs.bundles.container import container, entries
 
 # The bundles of a head alone and of a run with one test, whose manifest has these sizes.
 SIZES = (
-    b'"sizes":{"log":{"compressed":1915,"entries":3,"uncompressed":1915},"store":{"compressed":556,"entries":5,'
-    b'"uncompressed":380}}'
+    b'"sizes":{"log":{"compressed":1915,"entries":3,"uncompressed":1915},"store":{"compressed":556,'
+    b'"entries":5,"uncompressed":380}}'
 )
 HEAD_ALONE = container(
     [(b"manifest.json", MANIFEST), (b"run.log.zst", b""), (b"store.zip", container(METADATA))]
@@ -72,114 +84,138 @@ ONE_TEST_RECORDED = container(
 
 # A finished test, up to its output, and after it; and as it is logged.
 BEFORE_OUTPUT = (
-    '{"timestamp":{"secs":0,"nanos":0,"offset":0},"elapsed":{"secs":0,"nanos":0},"kind":"test-finished",'
-    '"test-instance":{"binary-id":"b","test-name":"t"},"success-output":"never","failure-output":"never",'
-    '"junit-store-success-output":false,"junit-store-failure-output":false,"junit-flaky-fail-status":"failure","running":0,'
+    '{"timestamp":{"secs":0,"nanos":0,"offset":0},"elapsed":{"secs":0,"nanos":0},'
+    '"kind":"test-finished","test-instance":{"binary-id":"b","test-name":"t"},'
+    '"success-output":"never","failure-output":"never","junit-store-success-output":false,'
+    '"junit-store-failure-output":false,"junit-flaky-fail-status":"failure","running":0,'
     '"current-stats":{"initial-run-count":0,"finished-count":0,"setup-scripts-initial-count":0,'
-    '"setup-scripts-finished-count":0,"setup-scripts-passed":0,"setup-scripts-failed":0,"setup-scripts-exec-failed":0,'
-    '"setup-scripts-timed-out":0,"passed":0,"passed-slow":0,"passed-timed-out":0,"flaky":0,"failed":0,"failed-slow":0,'
-    '"failed-timed-out":0,"leaky":0,"leaky-failed":0,"exec-failed":0,"skipped":0},"run-statuses":{"flaky-result":"pass",'
-    '"statuses":[{"retry-data":{"attempt":1,"total-attempts":1},"result":"pass","start-time":{"secs":0,"nanos":0,"offset":0},'
-    '"time-taken":{"secs":0,"nanos":0},"is-slow":false,"delay-before-start":{"secs":0,"nanos":0},"output":'
+    '"setup-scripts-finished-count":0,"setup-scripts-passed":0,"setup-scripts-failed":0,'
+    '"setup-scripts-exec-failed":0,"setup-scripts-timed-out":0,"passed":0,"passed-slow":0,'
+    '"passed-timed-out":0,"flaky":0,"failed":0,"failed-slow":0,"failed-timed-out":0,"leaky":0,'
+    '"leaky-failed":0,"exec-failed":0,"skipped":0},"run-statuses":{"flaky-result":"pass",'
+    '"statuses":[{"retry-data":{"attempt":1,"total-attempts":1},"result":"pass",'
+    '"start-time":{"secs":0,"nanos":0,"offset":0},"time-taken":{"secs":0,"nanos":0},'
+    '"is-slow":false,"delay-before-start":{"secs":0,"nanos":0},"output":'
 )
 AFTER_OUTPUT = "}]}}"
 
 BEFORE_STORED = (
-    '{"current-stats":{"exec-failed":0,"failed":0,"failed-slow":0,"failed-timed-out":0,"finished-count":0,"flaky":0,'
-    '"initial-run-count":0,"leaky":0,"leaky-failed":0,"passed":0,"passed-slow":0,"passed-timed-out":0,'
-    '"setup-scripts-exec-failed":0,"setup-scripts-failed":0,"setup-scripts-finished-count":0,"setup-scripts-initial-count":0,'
-    '"setup-scripts-passed":0,"setup-scripts-timed-out":0,"skipped":0},"elapsed":{"nanos":0,"secs":0},'
-    '"failure-output":"never","junit-flaky-fail-status":"failure","junit-store-failure-output":false,'
-    '"junit-store-success-output":false,"kind":"test-finished","run-statuses":{"flaky-result":"pass",'
-    '"statuses":[{"delay-before-start":{"nanos":0,"secs":0},"is-slow":false,"output":'
+    '{"current-stats":{"exec-failed":0,"failed":0,"failed-slow":0,"failed-timed-out":0,'
+    '"finished-count":0,"flaky":0,"initial-run-count":0,"leaky":0,"leaky-failed":0,"passed":0,'
+    '"passed-slow":0,"passed-timed-out":0,"setup-scripts-exec-failed":0,"setup-scripts-failed":0,'
+    '"setup-scripts-finished-count":0,"setup-scripts-initial-count":0,"setup-scripts-passed":0,'
+    '"setup-scripts-timed-out":0,"skipped":0},"elapsed":{"nanos":0,"secs":0},'
+    '"failure-output":"never","junit-flaky-fail-status":"failure",'
+    '"junit-store-failure-output":false,"junit-store-success-output":false,"kind":"test-finished",'
+    '"run-statuses":{"flaky-result":"pass","statuses":[{"delay-before-start":{"nanos":0,"secs":0},'
+    '"is-slow":false,"output":'
 )
 
 AFTER_STORED = (
-    ',"result":"pass","retry-data":{"attempt":1,"total-attempts":1},"start-time":{"nanos":0,"offset":0,"secs":0},'
-    '"time-taken":{"nanos":0,"secs":0}}]},"running":0,"success-output":"never","test-instance":{"binary-id":"b",'
-    '"test-name":"t"},"timestamp":{"nanos":0,"offset":0,"secs":0}}'
+    ',"result":"pass","retry-data":{"attempt":1,"total-attempts":1},"start-time":{"nanos":0,'
+    '"offset":0,"secs":0},"time-taken":{"nanos":0,"secs":0}}]},"running":0,'
+    '"success-output":"never","test-instance":{"binary-id":"b","test-name":"t"},'
+    '"timestamp":{"nanos":0,"offset":0,"secs":0}}'
 )
 
 # A setup script wrote `abc`.
 SCRIPT = (
-    '{"timestamp":{"secs":1000,"nanos":0,"offset":0},"elapsed":{"secs":0,"nanos":0},"kind":"setup-script-finished","index":0,'
-    '"total":1,"script-id":"db","program":"./db.sh","args":["up"],"no-capture":false,'
-    '"run-status":{"output":{"output":{"output":{"split":{"stdout":"616263"}}}},"result":"pass","start-time":{"secs":1000,'
-    '"nanos":0,"offset":0},"time-taken":{"secs":1,"nanos":0},"is-slow":false,"env-map":{"DB_URL":"db:1"}}}'
+    '{"timestamp":{"secs":1000,"nanos":0,"offset":0},"elapsed":{"secs":0,"nanos":0},'
+    '"kind":"setup-script-finished","index":0,"total":1,"script-id":"db","program":"./db.sh",'
+    '"args":["up"],"no-capture":false,"run-status":{"output":{"output":{"output":{"split":{'
+    '"stdout":"616263"}}}},"result":"pass","start-time":{"secs":1000,"nanos":0,"offset":0},'
+    '"time-taken":{"secs":1,"nanos":0},"is-slow":false,"env-map":{"DB_URL":"db:1"}}}'
 )
 
 SCRIPT_LINE = (
-    '{"args":["up"],"elapsed":{"nanos":0,"secs":0},"index":0,"kind":"setup-script-finished","no-capture":false,'
-    '"program":"./db.sh","run-status":{"env-map":{"DB_URL":"db:1"},"is-slow":false,'
-    '"output":{"output":{"output":{"split":{"stdout":{"full":"ba7816bf8f01cfea-stdout"}}}}},"result":"pass",'
-    '"start-time":{"nanos":0,"offset":0,"secs":1000},"time-taken":{"nanos":0,"secs":1}},"script-id":"db",'
-    '"timestamp":{"nanos":0,"offset":0,"secs":1000},"total":1}'
+    '{"args":["up"],"elapsed":{"nanos":0,"secs":0},"index":0,"kind":"setup-script-finished",'
+    '"no-capture":false,"program":"./db.sh","run-status":{"env-map":{"DB_URL":"db:1"},'
+    '"is-slow":false,"output":{"output":{"output":{"split":{"stdout":{"full":"ba7816bf8f01cfea-'
+    'stdout"}}}}},"result":"pass","start-time":{"nanos":0,"offset":0,"secs":1000},'
+    '"time-taken":{"nanos":0,"secs":1}},"script-id":"db","timestamp":{"nanos":0,"offset":0,'
+    '"secs":1000},"total":1}'
 )
 
 # An attempt failed and wrote `hello`.
 FAILED = (
-    '{"timestamp":{"secs":1001,"nanos":0,"offset":0},"elapsed":{"secs":1,"nanos":0},"kind":"test-attempt-failed-will-retry",'
-    '"test-instance":{"binary-id":"b","test-name":"t"},"run-status":{"retry-data":{"attempt":1,"total-attempts":3},'
-    '"output":{"output":{"output":{"combined":"68656c6c6f"}}},"result":{"fail":{"failure":{"exit-code":1},"leaked":false}},'
-    '"start-time":{"secs":1001,"nanos":0,"offset":0},"time-taken":{"secs":1,"nanos":0},"is-slow":false,'
-    '"delay-before-start":{"secs":0,"nanos":0}},"delay-before-next-attempt":{"secs":2,"nanos":0},"failure-output":"never",'
-    '"running":1}'
+    '{"timestamp":{"secs":1001,"nanos":0,"offset":0},"elapsed":{"secs":1,"nanos":0},'
+    '"kind":"test-attempt-failed-will-retry","test-instance":{"binary-id":"b","test-name":"t"},'
+    '"run-status":{"retry-data":{"attempt":1,"total-attempts":3},'
+    '"output":{"output":{"output":{"combined":"68656c6c6f"}}},'
+    '"result":{"fail":{"failure":{"exit-code":1},"leaked":false}},"start-time":{"secs":1001,'
+    '"nanos":0,"offset":0},"time-taken":{"secs":1,"nanos":0},"is-slow":false,'
+    '"delay-before-start":{"secs":0,"nanos":0}},"delay-before-next-attempt":{"secs":2,"nanos":0},'
+    '"failure-output":"never","running":1}'
 )
 
 FAILED_LINE = (
-    '{"delay-before-next-attempt":{"nanos":0,"secs":2},"elapsed":{"nanos":0,"secs":1},"failure-output":"never",'
-    '"kind":"test-attempt-failed-will-retry","run-status":{"delay-before-start":{"nanos":0,"secs":0},"is-slow":false,'
+    '{"delay-before-next-attempt":{"nanos":0,"secs":2},"elapsed":{"nanos":0,"secs":1},'
+    '"failure-output":"never","kind":"test-attempt-failed-will-retry",'
+    '"run-status":{"delay-before-start":{"nanos":0,"secs":0},"is-slow":false,'
     '"output":{"output":{"output":{"combined":{"full":"2cf24dba5fb0a30e-combined"}}}},'
-    '"result":{"fail":{"failure":{"exit-code":1},"leaked":false}},"retry-data":{"attempt":1,"total-attempts":3},'
-    '"start-time":{"nanos":0,"offset":0,"secs":1001},"time-taken":{"nanos":0,"secs":1}},"running":1,'
-    '"test-instance":{"binary-id":"b","test-name":"t"},"timestamp":{"nanos":0,"offset":0,"secs":1001}}'
+    '"result":{"fail":{"failure":{"exit-code":1},"leaked":false}},"retry-data":{"attempt":1,'
+    '"total-attempts":3},"start-time":{"nanos":0,"offset":0,"secs":1001},"time-taken":{"nanos":0,'
+    '"secs":1}},"running":1,"test-instance":{"binary-id":"b","test-name":"t"},'
+    '"timestamp":{"nanos":0,"offset":0,"secs":1001}}'
 )
 
 # A test passed at its last attempt. It wrote `abc`, and then `world`.
 TWO_ATTEMPTS = (
-    '{"timestamp":{"secs":1004,"nanos":0,"offset":0},"elapsed":{"secs":4,"nanos":0},"kind":"test-finished",'
-    '"test-instance":{"binary-id":"b","test-name":"t"},"success-output":"never","failure-output":"never",'
-    '"junit-store-success-output":false,"junit-store-failure-output":false,"junit-flaky-fail-status":"failure",'
+    '{"timestamp":{"secs":1004,"nanos":0,"offset":0},"elapsed":{"secs":4,"nanos":0},'
+    '"kind":"test-finished","test-instance":{"binary-id":"b","test-name":"t"},'
+    '"success-output":"never","failure-output":"never","junit-store-success-output":false,'
+    '"junit-store-failure-output":false,"junit-flaky-fail-status":"failure",'
     '"run-statuses":{"statuses":[{"retry-data":{"attempt":2,"total-attempts":3},'
-    '"output":{"output":{"output":{"split":{"stdout":"616263"}}}},"result":"exec-fail","start-time":{"secs":1002,"nanos":0,'
-    '"offset":0},"time-taken":{"secs":1,"nanos":0},"is-slow":false,"delay-before-start":{"secs":2,"nanos":0}},'
-    '{"retry-data":{"attempt":3,"total-attempts":3},"output":{"output":{"output":{"split":{"stdout":"776f726c64"}}}},'
-    '"result":"pass","start-time":{"secs":1003,"nanos":0,"offset":0},"time-taken":{"secs":0,"nanos":5},"is-slow":true,'
-    '"delay-before-start":{"secs":0,"nanos":7}}],"flaky-result":"pass"},"current-stats":{"initial-run-count":0,'
-    '"finished-count":0,"setup-scripts-initial-count":0,"setup-scripts-finished-count":0,"setup-scripts-passed":0,'
-    '"setup-scripts-failed":0,"setup-scripts-exec-failed":0,"setup-scripts-timed-out":0,"passed":0,"passed-slow":0,'
-    '"passed-timed-out":0,"flaky":0,"failed":0,"failed-slow":0,"failed-timed-out":0,"leaky":0,"leaky-failed":0,'
-    '"exec-failed":0,"skipped":0},"running":0}'
+    '"output":{"output":{"output":{"split":{"stdout":"616263"}}}},"result":"exec-fail",'
+    '"start-time":{"secs":1002,"nanos":0,"offset":0},"time-taken":{"secs":1,"nanos":0},'
+    '"is-slow":false,"delay-before-start":{"secs":2,"nanos":0}},{"retry-data":{"attempt":3,'
+    '"total-attempts":3},"output":{"output":{"output":{"split":{"stdout":"776f726c64"}}}},'
+    '"result":"pass","start-time":{"secs":1003,"nanos":0,"offset":0},"time-taken":{"secs":0,'
+    '"nanos":5},"is-slow":true,"delay-before-start":{"secs":0,"nanos":7}}],"flaky-result":"pass"},'
+    '"current-stats":{"initial-run-count":0,"finished-count":0,"setup-scripts-initial-count":0,'
+    '"setup-scripts-finished-count":0,"setup-scripts-passed":0,"setup-scripts-failed":0,'
+    '"setup-scripts-exec-failed":0,"setup-scripts-timed-out":0,"passed":0,"passed-slow":0,'
+    '"passed-timed-out":0,"flaky":0,"failed":0,"failed-slow":0,"failed-timed-out":0,"leaky":0,'
+    '"leaky-failed":0,"exec-failed":0,"skipped":0},"running":0}'
 )
 
 TWO_ATTEMPTS_LINE = (
-    '{"current-stats":{"exec-failed":0,"failed":0,"failed-slow":0,"failed-timed-out":0,"finished-count":0,"flaky":0,'
-    '"initial-run-count":0,"leaky":0,"leaky-failed":0,"passed":0,"passed-slow":0,"passed-timed-out":0,'
-    '"setup-scripts-exec-failed":0,"setup-scripts-failed":0,"setup-scripts-finished-count":0,"setup-scripts-initial-count":0,'
-    '"setup-scripts-passed":0,"setup-scripts-timed-out":0,"skipped":0},"elapsed":{"nanos":0,"secs":4},'
-    '"failure-output":"never","junit-flaky-fail-status":"failure","junit-store-failure-output":false,'
-    '"junit-store-success-output":false,"kind":"test-finished","run-statuses":{"flaky-result":"pass",'
-    '"statuses":[{"delay-before-start":{"nanos":0,"secs":2},"is-slow":false,'
-    '"output":{"output":{"output":{"split":{"stdout":{"full":"ba7816bf8f01cfea-stdout"}}}}},"result":"exec-fail",'
-    '"retry-data":{"attempt":2,"total-attempts":3},"start-time":{"nanos":0,"offset":0,"secs":1002},"time-taken":{"nanos":0,'
-    '"secs":1}},{"delay-before-start":{"nanos":7,"secs":0},"is-slow":true,'
-    '"output":{"output":{"output":{"split":{"stdout":{"full":"486ea46224d1bb4f-stdout"}}}}},"result":"pass",'
-    '"retry-data":{"attempt":3,"total-attempts":3},"start-time":{"nanos":0,"offset":0,"secs":1003},"time-taken":{"nanos":5,'
-    '"secs":0}}]},"running":0,"success-output":"never","test-instance":{"binary-id":"b","test-name":"t"},'
+    '{"current-stats":{"exec-failed":0,"failed":0,"failed-slow":0,"failed-timed-out":0,'
+    '"finished-count":0,"flaky":0,"initial-run-count":0,"leaky":0,"leaky-failed":0,"passed":0,'
+    '"passed-slow":0,"passed-timed-out":0,"setup-scripts-exec-failed":0,"setup-scripts-failed":0,'
+    '"setup-scripts-finished-count":0,"setup-scripts-initial-count":0,"setup-scripts-passed":0,'
+    '"setup-scripts-timed-out":0,"skipped":0},"elapsed":{"nanos":0,"secs":4},'
+    '"failure-output":"never","junit-flaky-fail-status":"failure",'
+    '"junit-store-failure-output":false,"junit-store-success-output":false,"kind":"test-finished",'
+    '"run-statuses":{"flaky-result":"pass","statuses":[{"delay-before-start":{"nanos":0,"secs":2},'
+    '"is-slow":false,"output":{"output":{"output":{"split":{"stdout":{"full":"ba7816bf8f01cfea-'
+    'stdout"}}}}},"result":"exec-fail","retry-data":{"attempt":2,"total-attempts":3},'
+    '"start-time":{"nanos":0,"offset":0,"secs":1002},"time-taken":{"nanos":0,"secs":1}},'
+    '{"delay-before-start":{"nanos":7,"secs":0},"is-slow":true,'
+    '"output":{"output":{"output":{"split":{"stdout":{"full":"486ea46224d1bb4f-stdout"}}}}},'
+    '"result":"pass","retry-data":{"attempt":3,"total-attempts":3},"start-time":{"nanos":0,'
+    '"offset":0,"secs":1003},"time-taken":{"nanos":5,"secs":0}}]},"running":0,'
+    '"success-output":"never","test-instance":{"binary-id":"b","test-name":"t"},'
     '"timestamp":{"nanos":0,"offset":0,"secs":1004}}'
 )
 ABC = '{"output":{"output":{"split":{"stdout":"616263"}}}}'
 ABC_LOGGED = '{"output":{"output":{"split":{"stdout":{"full":"ba7816bf8f01cfea-stdout"}}}}}'
-ABC_CUT_LOGGED = '{"output":{"output":{"split":{"stdout":{"truncated":{"file-name":"f324c488732c58a3-stdout","original-size":3}}}}}}'
+ABC_CUT_LOGGED = (
+    '{"output":{"output":{"split":{"stdout":{"truncated":{"file-name":"f324c488732c58a3-stdout",'
+    '"original-size":3}}}}}}'
+)
 ABC_AS_STDERR = '{"output":{"output":{"split":{"stdout":"","stderr":"616263"}}}}'
 ABC_AS_STDERR_LOGGED = (
     '{"output":{"output":{"split":{"stderr":{"full":"ba7816bf8f01cfea-stderr"},"stdout":"empty"}}}}'
 )
 ABCD = '{"output":{"output":{"split":{"stdout":"61626364"}}}}'
-ABCD_CUT_LOGGED = '{"output":{"output":{"split":{"stdout":{"truncated":{"file-name":"f324c488732c58a3-stdout","original-size":4}}}}}}'
+ABCD_CUT_LOGGED = (
+    '{"output":{"output":{"split":{"stdout":{"truncated":{"file-name":"f324c488732c58a3-stdout",'
+    '"original-size":4}}}}}}'
+)
 
 # Outputs, limits, and what is kept of them.
-CUTS = [
+CUTS: list[tuple[bytes, int, list[bytes]]] = [
     (b"", 0, []),
     (b"abcdef", 6, [b"abcdef"]),
     (b"hello world", 100, [b"hello world"]),
@@ -225,21 +261,25 @@ STORED_OF_ALL_KINDS = [
 
 # The metadata of a rerun.
 
-# A head with all metadata, and the entries of its store. Each default is written, and the suites are sorted.
+# A head with all metadata, and the entries of its store. Each default is written, and the suites
+# are sorted.
 RERUN_HEAD = (
     '{"run-id":"550e8400-e29b-41d4-a716-446655440000","nextest-version":"0.9.111",'
-    '"started-at":{"secs":1000,"nanos":0,"offset":0},"last-written-at":{"secs":1011,"nanos":0,"offset":0},'
-    '"status":{"status":"incomplete"},"cargo-metadata":"{}","test-list":{"suites":{"b":["t2","t1"],"a":[]}},'
+    '"started-at":{"secs":1000,"nanos":0,"offset":0},"last-written-at":{"secs":1011,"nanos":0,'
+    '"offset":0},'
+    '"status":{"status":"incomplete"},"cargo-metadata":"{}","test-list":{"suites":{"b":["t2","t1"],'
+    '"a":[]}},'
     '"record-opts":{"run-mode":"benchmark"},"build-scope":{"build-kind":"cargo","scope":{}},'
     '"rerun-info":{"parent-run-id":"550e8400-e29b-41d4-a716-446655440000",'
-    '"root-info":{"build-scope":{"build-kind":"cargo","scope":{}},"run-id":"550e8400-e29b-41d4-a716-446655440000"},'
+    '"root-info":{"build-scope":{"build-kind":"cargo","scope":{}},'
+    '"run-id":"550e8400-e29b-41d4-a716-446655440000"},'
     '"test-suites":[]}'
     "}"
 )
 
 RERUN_INFO = (
-    b'{"parent-run-id":"550e8400-e29b-41d4-a716-446655440000","root-info":{"build-scope":%s,"run-id":'
-    b'"550e8400-e29b-41d4-a716-446655440000"},"test-suites":[]}' % BUILD_SCOPE
+    b'{"parent-run-id":"550e8400-e29b-41d4-a716-446655440000","root-info":{"build-scope":%s,'
+    b'"run-id":"550e8400-e29b-41d4-a716-446655440000"},"test-suites":[]}' % BUILD_SCOPE
 )
 RERUN_METADATA = [
     (b"meta/build-scope.json", BUILD_SCOPE),
@@ -249,7 +289,8 @@ RERUN_METADATA = [
     (b"meta/record-opts.json", BENCHMARK),
 ]
 
-# A session of a rerun with one setup script that wrote `abc`, its store, and what is replayed of it.
+# A session of a rerun with one setup script that wrote `abc`, its store, and what is replayed of
+# it.
 SCOPE = {"build-kind": "cargo", "scope": {}}
 RERUN = {
     "parent-run-id": RUN_ID,
@@ -268,16 +309,16 @@ BENCHMARK_HEAD = {
     "build-scope": SCOPE,
     "rerun-info": RERUN,
 }
-DB = {"program": "./db.sh", "args": ["up"]}
-RAN = {
+DB = script_members(program="./db.sh", args=["up"])
+RAN: Members = {
     **course(captured({"split": {"stdout": "616263"}}), "pass", instant(1000), duration(1)),
     "env-map": {"DB_URL": "db:1"},
 }
 RERUN_SESSION = b"\n".join(
     (
         compact(BENCHMARK_HEAD),
-        line(script_started(**DB), instant(1000), elapsed=0),
-        line(script_ended(RAN, **DB), instant(1000), elapsed=0),
+        line(script_started(DB), instant(1000), elapsed=0),
+        line(script_ended(RAN, DB), instant(1000), elapsed=0),
     )
 )
 RERUN_STORE = container(
@@ -290,9 +331,9 @@ RERUN_STORE = container(
         (b"out/ba7816bf8f01cfea-stdout", b"abc"),
     ]
 )
-RERUN_REPLAYED = (
-    HEADER
-    + b"1000.000000000 setup-script-started db\n1000.000000000 setup-script-finished db stdout=3 stderr=-\n"
+RERUN_REPLAYED = HEADER + (
+    b"1000.000000000 setup-script-started db\n1000.000000000 setup-script-finished db stdout=3 "
+    b"stderr=-\n"
 )
 
 # Limits.
@@ -313,27 +354,31 @@ ABC_CUT = has(b'"original-size":3')
 ABC_NOT_CUT = lacks(b'"original-size":3')
 
 
-def ended(output):
+def ended(output: str) -> str:
     return BEFORE_OUTPUT + output + AFTER_OUTPUT
 
 
-def logged(output):
+def logged(output: str) -> str:
     return BEFORE_STORED + output + AFTER_STORED
 
 
-def outputs_are(wanted):
+def outputs_are(wanted: list[Entry]) -> Holds:
     return Holds(f"a bundle with the outputs {wanted}", lambda data: outputs(data) == wanted)
 
 
-def store_is(wanted):
+def store_is(wanted: list[Entry]) -> Holds:
     return Holds(
         f"a bundle with the store {wanted}",
         lambda data: list(entries(entries(data)[b"store.zip"]).items()) == wanted,
     )
 
 
-def recorded(name, limit, events, lines, stored):
-    """Events, each after what has to start before it, make the bundle of these lines and of these outputs."""
+def recorded(
+    name: str, limit: int, events: Sequence[str], lines: Sequence[str], stored: list[Entry]
+) -> Case:
+    """Events, each after what has to start before it, make the bundle of these lines and of these
+    outputs.
+    """
     starts = [starts_of(event) for event in events]
     given = [line for before, event in zip(starts, events) for line in [*before, event]]
     log = log_of(*(line for before, event in zip(starts, lines) for line in [*before, event]))
@@ -346,16 +391,17 @@ def recorded(name, limit, events, lines, stored):
     )
 
 
-def cut(output, limit, kept):
+def cut(output: bytes, limit: int, kept: list[bytes]) -> Case:
     event = ended('{"output":{"output":{"combined":"%s"}}}' % output.hex())
     words = ("record", "b", "--max-output", str(limit))
-    name = f"{len(output)} bytes from {output[:10]}, limit {limit}"
+    name = f"{len(output)} bytes from {output[:10]!r}, limit {limit}"
     return Case(name, words, session(*starts_of(event), event), out=SOME, file=kept_are(kept))
 
 
-def limited(session, options, status=0, line=b""):
+def limited(session: bytes, options: str, status: int = 0, line: bytes = b"") -> Case:
     """A case of a session under these options."""
-    out, file = (b"", None) if status else (SOME, SOME)
+    out: Wanted = b"" if status else SOME
+    file = None if status else SOME
     return Case(
         f"{options} of {len(session)} bytes",
         ("record", "b", *options.split(" ")),
@@ -367,7 +413,7 @@ def limited(session, options, status=0, line=b""):
     )
 
 
-def head_limited(limit):
+def head_limited(limit: str) -> Case:
     """A case of a head under this session limit: the manifest counts neither events nor outputs."""
     words = (
         "record",
@@ -384,7 +430,7 @@ def head_limited(limit):
     )
 
 
-def output_limited(limit, log):
+def output_limited(limit: str, log: Wanted) -> Case:
     """A case of an output of three bytes under this limit, and what holds of the log."""
     words, session = ("record", "b", "--max-output", limit), session_of(TEST_STARTED, finished())
     return Case(
@@ -440,7 +486,7 @@ CASES = [
         STORED_OF_ALL_KINDS,
     ),
     *(cut(*row) for row in CUTS),
-    Case("metadata", ("record", "b"), session(head=RERUN_HEAD), out=SOME, file=WHOLE),
+    Case("metadata", ("record", "b"), session(head=RERUN_HEAD.encode()), out=SOME, file=WHOLE),
     limited(HEAD, "--session-limit 341"),
     limited(HEAD, "--session-limit 340", 4, b"SessionTooLarge limit=340\n"),
     limited(HEAD, "--session-limit 0", 4, b"SessionTooLarge limit=0\n"),

@@ -1,49 +1,55 @@
-"""Events that contradict each other, need what isn't open, or count too far: `record` and `trace` refuse them."""
+"""Events that contradict each other, need what isn't open, or count too far: `record` and `trace`
+refuse them.
+"""
+
+from __future__ import annotations
+
+from typing import NamedTuple
 
 from workshop.cases.case import SOME, Case, entry_is, has
-from workshop.cases.made import (
-    FAULTY,
+from workshop.cases.events import (
     NOT_STARTED,
     attempt_failed,
     attempt_of,
-    bundle,
-    cancel,
     course,
-    duration,
-    end,
-    fail,
-    go_on,
-    instant,
-    line,
-    log_of,
-    numbered,
-    pause,
     progress,
-    retry,
     retry_started,
-    run,
-    run_end,
     run_finished,
-    script,
-    script_end,
     script_ended,
-    script_slow,
+    script_members,
     script_started,
-    skip,
     slot,
-    slow,
     slow_script,
     slow_test,
-    start,
     stats,
     status,
     stopped,
-    sub_run,
-    sub_run_end,
     sub_run_finished,
     sub_run_started,
     test_skipped,
 )
+from workshop.cases.histories import (
+    FAULTY,
+    Line,
+    cancel,
+    end,
+    fail,
+    go_on,
+    numbered,
+    pause,
+    retry,
+    run,
+    run_end,
+    script,
+    script_end,
+    script_slow,
+    skip,
+    slow,
+    start,
+    sub_run,
+    sub_run_end,
+)
+from workshop.cases.made import Members, bundle, duration, instant, line, log_of
 from workshop.cases.outlines import GROUPINGS, refused, refused_by_record, refused_by_trace
 from workshop.cases.texts import (
     RUN_PAUSED,
@@ -54,118 +60,142 @@ from workshop.cases.texts import (
     session_of,
 )
 
+
+class Refusal(NamedTuple):
+    """A history, the line that refuses it, and the status."""
+
+    lines: list[Line]
+    fault: str
+    status: int = 8
+
+
+class Last(NamedTuple):
+    """What the last of some events is, the events, the status and the line for them."""
+
+    what: str
+    events: tuple[bytes, ...]
+    status: int
+    line: bytes
+
+
 # What ends or is slow without having started.
 MISSING = [
-    ([end(1000, 1, 0)], "MissingTestStart event=1 binary_id=alpha::a test_name=t1"),
-    ([fail(1000, 1)], "MissingTestStart event=1 binary_id=alpha::a test_name=t1"),
-    ([slow(1000, 3)], "MissingTestStart event=1 binary_id=beta::b test_name=t3"),
-    (
+    Refusal([end(1000, 1, 0)], "MissingTestStart event=1 binary_id=alpha::a test_name=t1"),
+    Refusal([fail(1000, 1)], "MissingTestStart event=1 binary_id=alpha::a test_name=t1"),
+    Refusal([slow(1000, 3)], "MissingTestStart event=1 binary_id=beta::b test_name=t3"),
+    Refusal(
         [run(1000), start(1001, 1, 0), end(1002, 1, 0), end(1003, 1, 0)],
         "MissingTestStart event=4 binary_id=alpha::a test_name=t1",
     ),
-    (
+    Refusal(
         [start(1000, 1, 0), fail(1001, 1), end(1002, 1, 0)],
         "MissingTestStart event=3 binary_id=alpha::a test_name=t1",
     ),
-    (
+    Refusal(
         [start(1000, 1, 0), fail(1001, 1), slow(1002, 1)],
         "MissingTestStart event=3 binary_id=alpha::a test_name=t1",
     ),
-    (
+    Refusal(
         [start(1000, 1, 0), fail(1001, 1), fail(1002, 1)],
         "MissingTestStart event=3 binary_id=alpha::a test_name=t1",
     ),
-    (
+    Refusal(
         [start(1000, 1, 0), end(1001, 2, 0)],
         "MissingTestStart event=2 binary_id=alpha::a test_name=t2",
     ),
-    ([script_end(1000, 0, 1)], "MissingScriptStart event=1 script_id=db1"),
-    ([script_slow(1000, 1)], "MissingScriptStart event=1 script_id=db1"),
-    ([script(1000, 0, 1), script_end(1001, 0, 2)], "MissingScriptStart event=2 script_id=db2"),
-    ([script(1000, 0, 1), script_end(1001, 1, 1)], "MissingScriptStart event=2 script_id=db1"),
-    (
+    Refusal([script_end(1000, 0, 1)], "MissingScriptStart event=1 script_id=db1"),
+    Refusal([script_slow(1000, 1)], "MissingScriptStart event=1 script_id=db1"),
+    Refusal(
+        [script(1000, 0, 1), script_end(1001, 0, 2)], "MissingScriptStart event=2 script_id=db2"
+    ),
+    Refusal(
+        [script(1000, 0, 1), script_end(1001, 1, 1)], "MissingScriptStart event=2 script_id=db1"
+    ),
+    Refusal(
         [script(1000, 0, 1), script_slow(1001, 1), script_slow(1002, 2)],
         "MissingScriptStart event=3 script_id=db2",
     ),
-    ([run(1000), sub_run_end(1001)], "MissingStressSubRunStart event=2"),
-    ([sub_run(1000), sub_run_end(1001), sub_run_end(1002)], "MissingStressSubRunStart event=3"),
+    Refusal([run(1000), sub_run_end(1001)], "MissingStressSubRunStart event=2"),
+    Refusal(
+        [sub_run(1000), sub_run_end(1001), sub_run_end(1002)], "MissingStressSubRunStart event=3"
+    ),
 ]
 
 # What starts while it is open, or on a slot that is held.
 OPEN = [
-    ([run(1000), run(1001)], "SpanAlreadyOpen event=2 span=Run"),
-    ([run(1000), run_end(1001), run(1002), run(1003)], "SpanAlreadyOpen event=4 span=Run"),
-    ([sub_run(1000), sub_run(1001)], "SpanAlreadyOpen event=2 span=SubRun"),
-    ([script(1000, 0, 1), script(1001, 0, 2)], "SpanAlreadyOpen event=2 span=Script 0"),
-    (
+    Refusal([run(1000), run(1001)], "SpanAlreadyOpen event=2 span=Run"),
+    Refusal([run(1000), run_end(1001), run(1002), run(1003)], "SpanAlreadyOpen event=4 span=Run"),
+    Refusal([sub_run(1000), sub_run(1001)], "SpanAlreadyOpen event=2 span=SubRun"),
+    Refusal([script(1000, 0, 1), script(1001, 0, 2)], "SpanAlreadyOpen event=2 span=Script 0"),
+    Refusal(
         [start(1000, 1, 0), run(1001), start(1002, 1, 1)],
         "SpanAlreadyOpen event=3 span=Test binary_id=alpha::a test_name=t1",
     ),
-    (
+    Refusal(
         [retry(1000, 1, 0), retry(1001, 1, 0)],
         "SpanAlreadyOpen event=2 span=Test binary_id=alpha::a test_name=t1",
     ),
-    (
+    Refusal(
         [pause(1000, 0), start(1001, 1, 0), start(1002, 1, 1)],
         "SpanAlreadyOpen event=3 span=Test binary_id=alpha::a test_name=t1",
     ),
-    ([start(1000, 1, 7), start(1001, 2, 7)], "SlotBusy event=2 slot=7"),
-    ([start(1000, 1, 7), retry(1001, 3, 7)], "SlotBusy event=2 slot=7"),
-    (
+    Refusal([start(1000, 1, 7), start(1001, 2, 7)], "SlotBusy event=2 slot=7"),
+    Refusal([start(1000, 1, 7), retry(1001, 3, 7)], "SlotBusy event=2 slot=7"),
+    Refusal(
         [start(1000, 1, 0), start(1001, 2, 1), start(1002, 1, 1)],
         "SpanAlreadyOpen event=3 span=Test binary_id=alpha::a test_name=t1",
     ),
-    ([start(1000, 1, 0), pause(1001, 0), retry(1002, 3, 0)], "SlotBusy event=3 slot=0"),
+    Refusal([start(1000, 1, 0), pause(1001, 0), retry(1002, 3, 0)], "SlotBusy event=3 slot=0"),
 ]
 
 # Numbers of rows and counts that are out of range, with the statuses.
 NUMBERS = [
-    (
+    Refusal(
         [start(1000, 1, 18446744073709541616)],
-        9,
         "RowOutOfRange event=1 number=18446744073709541616",
+        9,
     ),
-    (
+    Refusal(
         [retry(1000, 1, 18446744073709551615)],
-        9,
         "RowOutOfRange event=1 number=18446744073709551615",
+        9,
     ),
-    (
+    Refusal(
         [script(1000, 18446744073709541616, 1)],
-        9,
         "RowOutOfRange event=1 number=18446744073709541616",
+        9,
     ),
-    (
+    Refusal(
         [start(1000, 1, 18446744073709541615), start(1001, 1, 18446744073709541616)],
-        8,
         "SpanAlreadyOpen event=2 span=Test binary_id=alpha::a test_name=t1",
+        8,
     ),
-    ([start(1000, 1, 0), end(1001, 1, 18446744073709551615)], 9, "CountOutOfRange event=2"),
-    (
+    Refusal([start(1000, 1, 0), end(1001, 1, 18446744073709551615)], "CountOutOfRange event=2", 9),
+    Refusal(
         [end(1000, 1, 18446744073709551615)],
-        8,
         "MissingTestStart event=1 binary_id=alpha::a test_name=t1",
-    ),
-    ([pause(1000, 18446744073709551615), script(1001, 0, 1)], 9, "CountOutOfRange event=2"),
-    (
-        [cancel(1000, 18446744073709551614), script(1001, 0, 1), script(1002, 1, 2)],
-        9,
-        "CountOutOfRange event=3",
-    ),
-    (
-        [script(1000, 0, 1), go_on(1001, 18446744073709551615), script(1002, 1, 1)],
-        9,
-        "CountOutOfRange event=3",
-    ),
-    (
-        [script(1000, 0, 1), pause(1001, 18446744073709551615), script(1002, 0, 1)],
         8,
-        "SpanAlreadyOpen event=3 span=Script 0",
     ),
-    (
-        [pause(1000, 18446744073709551615), script(1001, 18446744073709551615, 1)],
+    Refusal([pause(1000, 18446744073709551615), script(1001, 0, 1)], "CountOutOfRange event=2", 9),
+    Refusal(
+        [cancel(1000, 18446744073709551614), script(1001, 0, 1), script(1002, 1, 2)],
+        "CountOutOfRange event=3",
         9,
+    ),
+    Refusal(
+        [script(1000, 0, 1), go_on(1001, 18446744073709551615), script(1002, 1, 1)],
+        "CountOutOfRange event=3",
+        9,
+    ),
+    Refusal(
+        [script(1000, 0, 1), pause(1001, 18446744073709551615), script(1002, 0, 1)],
+        "SpanAlreadyOpen event=3 span=Script 0",
+        8,
+    ),
+    Refusal(
+        [pause(1000, 18446744073709551615), script(1001, 18446744073709551615, 1)],
         "RowOutOfRange event=2 number=18446744073709551615",
+        9,
     ),
 ]
 
@@ -193,17 +223,18 @@ LATE_EVENTS = [
     run(-9223372036855),
 ]
 
-# Lines that are no events, and events before them: a session is refused for its lines first, and has its head as line 1.
+# Lines that are no events, and events before them: a session is refused for its lines first, and
+# has its head as line 1.
 UNREAD_LINES = [
-    ([FAULTY], 5, "ParseEvent line_number=2"),
-    ([run(1000), FAULTY, run(1001)], 5, "ParseEvent line_number=3"),
-    ([run(1000), run(1001), FAULTY], 5, "ParseEvent line_number=4"),
+    Refusal([FAULTY], "ParseEvent line_number=2", 5),
+    Refusal([run(1000), FAULTY, run(1001)], "ParseEvent line_number=3", 5),
+    Refusal([run(1000), run(1001), FAULTY], "ParseEvent line_number=4", 5),
 ]
 
 UNREAD_LOGS = [
-    ([FAULTY], 5, "ReadError ParseEvent line_number=1"),
-    ([run(1000), FAULTY, run(1001)], 5, "ReadError ParseEvent line_number=2"),
-    ([run(1000), run(1001), FAULTY], 8, "SpanAlreadyOpen event=2 span=Run"),
+    Refusal([FAULTY], "ReadError ParseEvent line_number=1", 5),
+    Refusal([run(1000), FAULTY, run(1001)], "ReadError ParseEvent line_number=2", 5),
+    Refusal([run(1000), run(1001), FAULTY], "SpanAlreadyOpen event=2 span=Run", 8),
 ]
 
 # Events at second 1002.
@@ -211,7 +242,7 @@ SECOND_1002 = instant(1002)
 COUNTING = progress(0, 1)
 SUB_RUN_STARTED = line(sub_run_started(0, 1), SECOND_1002)
 SUB_RUN_FINISHED = line(sub_run_finished(COUNTING, duration(1), stats()), SECOND_1002)
-SCRIPT_STARTED = line(script_started(index=3), SECOND_1002)
+SCRIPT_STARTED = line(script_started(script_members(3)), SECOND_1002)
 SCRIPT_SLOW = line(slow_script("db 1", "sh", duration(1)), SECOND_1002)
 
 # The end of a test whose outputs were not captured. A session and a log have the same text of it.
@@ -233,56 +264,56 @@ MISSING_TEST = b"MissingTestStart event=4 binary_id=alpha::a test_name=t1\n"
 OPEN_TEST = b"SpanAlreadyOpen event=2 span=Test binary_id=alpha::a test_name=t1\n"
 PAST_LAST_ROW = b"RowOutOfRange event=2 number=18446744073709551615\n"
 
-# What the last of some events is, the events, and the status and the line for them.
+# Events of which the last is refused.
 REFUSED = [
-    ("a second run", (RUN_STARTED, RUN_STARTED), 8, b"SpanAlreadyOpen event=2 span=Run\n"),
-    (
+    Last("a second run", (RUN_STARTED, RUN_STARTED), 8, b"SpanAlreadyOpen event=2 span=Run\n"),
+    Last(
         "a second sub-run",
         (SUB_RUN_STARTED, SUB_RUN_STARTED),
         8,
         b"SpanAlreadyOpen event=2 span=SubRun\n",
     ),
-    (
+    Last(
         "a script that runs",
         (SCRIPT_STARTED, SCRIPT_STARTED),
         8,
         b"SpanAlreadyOpen event=2 span=Script 3\n",
     ),
-    ("a test that runs", (TEST_STARTED, TEST_STARTED), 8, OPEN_TEST),
-    (
+    Last("a test that runs", (TEST_STARTED, TEST_STARTED), 8, OPEN_TEST),
+    Last(
         "a test on a busy slot",
         (RUN_STARTED, TEST_STARTED, OTHER_TEST),
         8,
         b"SlotBusy event=3 slot=0\n",
     ),
-    (
+    Last(
         "a test that has ended",
         (RUN_STARTED, TEST_STARTED, TEST_FINISHED, TEST_FINISHED),
         8,
         MISSING_TEST,
     ),
-    (
+    Last(
         "a slow script that doesn't run",
         (RUN_STARTED, SUB_RUN_STARTED, SCRIPT_STARTED, SCRIPT_SLOW),
         8,
         b"MissingScriptStart event=4 script_id=db 1\n",
     ),
-    (
+    Last(
         "a sub-run that has ended",
         (RUN_STARTED, SUB_RUN_STARTED, SUB_RUN_FINISHED, RUN_PAUSED, SUB_RUN_FINISHED),
         8,
         b"MissingStressSubRunStart event=5\n",
     ),
-    ("an instant out of range", (LATE,), 9, b"TimestampOutOfRange event=1\n"),
-    ("a slot out of range", (RUN_STARTED, MOST_SLOT), 9, PAST_LAST_ROW),
-    ("an index out of range", (RUN_STARTED, MOST_INDEX), 9, PAST_LAST_ROW),
-    (
+    Last("an instant out of range", (LATE,), 9, b"TimestampOutOfRange event=1\n"),
+    Last("a slot out of range", (RUN_STARTED, MOST_SLOT), 9, PAST_LAST_ROW),
+    Last("an index out of range", (RUN_STARTED, MOST_INDEX), 9, PAST_LAST_ROW),
+    Last(
         "a failed test too many",
         (RUN_STARTED, RUN_PAUSED, TEST_STARTED, MOST_FAILED),
         9,
         b"CountOutOfRange event=4\n",
     ),
-    (
+    Last(
         "a script too many",
         (RUN_STARTED, SUB_RUN_STARTED, MOST_SCRIPTS, SCRIPT_STARTED),
         9,
@@ -300,34 +331,34 @@ TOO_MANY_FAILED = replaced(
 # The same for `record` alone, under a read limit that is above all.
 LIMITED = ("record", "b", "--read-limit", "65536")
 LIMITED_RECORDS = [
-    (
+    Last(
         "a test that isn't running",
         (RUN_STARTED, finished()),
         8,
         b"MissingTestStart event=2 binary_id=alpha::a test_name=t1\n",
     ),
-    (
+    Last(
         "a second start of the run",
         (RUN_STARTED, RUN_STARTED),
         8,
         b"SpanAlreadyOpen event=2 span=Run\n",
     ),
-    ("a second start of a test", (TEST_STARTED, TEST_STARTED), 8, OPEN_TEST),
-    ("another test on a slot", (TEST_STARTED, OTHER_TEST), 8, b"SlotBusy event=2 slot=0\n"),
-    (
+    Last("a second start of a test", (TEST_STARTED, TEST_STARTED), 8, OPEN_TEST),
+    Last("another test on a slot", (TEST_STARTED, OTHER_TEST), 8, b"SlotBusy event=2 slot=0\n"),
+    Last(
         "a faulty line after what can't be drawn",
         (finished(), b"{}"),
         5,
         b"ParseEvent line_number=3\n",
     ),
-    ("an instant out of range", (LATE, RUN_STARTED), 9, b"TimestampOutOfRange event=1\n"),
-    (
+    Last("an instant out of range", (LATE, RUN_STARTED), 9, b"TimestampOutOfRange event=1\n"),
+    Last(
         "a slot past the last row",
         (RUN_STARTED, PAST_LAST_SLOT),
         9,
         b"RowOutOfRange event=2 number=18446744073709541616\n",
     ),
-    (
+    Last(
         "failed tests that 64 bits can't count",
         (TEST_STARTED, TOO_MANY_FAILED),
         9,
@@ -342,7 +373,8 @@ FIRST_ATTEMPT = attempt_of(1, 2)
 NO_SCRIPT = b"MissingScriptStart event=2 script_id=db\n"
 NO_TEST = b"MissingTestStart event=2 binary_id=alpha::a test_name=t1\n"
 
-# An event of each kind, and the line that refuses it after the start of a run, none where it is recorded.
+# An event of each kind, and the line that refuses it after the start of a run, none where it is
+# recorded.
 AFTER_START = [
     (stopped("run-paused"), b""),
     (sub_run_started(0, 1), b""),
@@ -365,7 +397,7 @@ COUNTS = has(
 )
 
 
-def after_start(event, refusal):
+def after_start(event: Members, refusal: bytes) -> Case:
     """A case of an event after the start of a run."""
     session = session_of(RUN_STARTED, line(event, SECOND_1002))
     if refusal:
@@ -380,8 +412,11 @@ def after_start(event, refusal):
 
 
 CASES = [
-    *[case for lines, fault in MISSING + OPEN for case in refused(lines, 8, fault)],
-    *[case for lines, status, fault in NUMBERS for case in refused(lines, status, fault)],
+    *[
+        case
+        for lines, fault, status in MISSING + OPEN + NUMBERS
+        for case in refused(lines, status, fault)
+    ],
     *[
         case
         for line in LATE_EVENTS
@@ -390,12 +425,12 @@ CASES = [
     *[
         refused_by_record(lines, status, fault, by)
         for by in GROUPINGS
-        for lines, status, fault in UNREAD_LINES
+        for lines, fault, status in UNREAD_LINES
     ],
     *[
         refused_by_trace(lines, status, fault, by)
         for by in GROUPINGS
-        for lines, status, fault in UNREAD_LOGS
+        for lines, fault, status in UNREAD_LOGS
     ],
     *[
         Case(f"record of {what}", ("record", "b"), session_of(*events), status, err=line)

@@ -1,15 +1,17 @@
 """What `replay` and `report` print of a run, and of which bundles and events they print nothing."""
 
-from workshop.cases.case import SOME, Case, Recorded, ends, has
-from workshop.cases.made import (
-    BENCHMARK,
+from __future__ import annotations
+
+from collections.abc import Iterator
+from typing import NamedTuple, TypeAlias
+
+from rezovamy_runs.bundles.container import container
+from workshop.cases.case import SOME, Case, Entry, Recorded, Words, ends, has
+from workshop.cases.events import (
     CANCEL,
     CONTINUATION,
     EXIT_CODE,
     NO_RUNS,
-    NO_TESTS,
-    ONE_TEST,
-    OPTIONS,
     PAUSE,
     RETRY_STARTED,
     RUN_FINISHED,
@@ -19,24 +21,31 @@ from workshop.cases.made import (
     TEST_SLOW,
     attempt,
     attempt_failed,
-    bundle,
     captured,
+    run_started,
+    script_finished,
+    standard_output,
+    stats,
+    sub_run_finished,
+    sub_run_started,
+    test_finished,
+    test_skipped,
+    test_started,
+)
+from workshop.cases.made import (
+    BENCHMARK,
+    NO_TESTS,
+    ONE_TEST,
+    OPTIONS,
+    Members,
+    bundle,
     duration,
     held,
     line,
     log,
     log_of,
     run_bundle,
-    run_started,
-    script_finished,
-    standard_output,
-    stats,
     store,
-    sub_run_finished,
-    sub_run_started,
-    test_finished,
-    test_skipped,
-    test_started,
 )
 from workshop.cases.texts import (
     HEAD,
@@ -49,7 +58,9 @@ from workshop.cases.texts import (
     replaced,
     session_of,
 )
-from rezovamy_runs.bundles.container import container
+
+# What is printed, or a status and a line.
+Printed: TypeAlias = bytes | tuple[int, bytes]
 
 # The words of the two commands: those of `replay` with outputs and without.
 LOADED, SKIPPED, REPORTED = ("replay",), ("replay", "--output", "skip"), ("report",)
@@ -63,15 +74,15 @@ OUTPUTS = (
 )
 
 
-def stored(options=OPTIONS, tests=TWO_TESTS):
+def stored(options: bytes | None = OPTIONS, tests: bytes | None = TWO_TESTS) -> bytes:
     return store(options, tests, OUTPUTS)
 
 
-def asked(name, words):
+def asked(name: str, words: Words) -> str:
     return f"{name}: {' '.join(words)}"
 
 
-def refused(name, bundle, status, line, *options):
+def refused(name: str, bundle: bytes, status: int, line: bytes, *options: str) -> list[Case]:
     """A bundle of which none of the commands prints anything, for the same reason."""
     return [
         Case(asked(name, words), (*words, *options), bundle, status, err=line) for words in PRINTS
@@ -80,16 +91,17 @@ def refused(name, bundle, status, line, *options):
 
 # A run of every kind of event.
 
+SCRIPT_FINISHED: Members = {
+    **script_finished("0000000000000002-combined", **{"env-map": {"X": "y"}}),
+    "args": ["a b", "c"],
+}
 KINDS = (
-    run_started(**{"stress-condition": {"count": 2}}),
+    run_started(more={"stress-condition": {"count": 2}}),
     sub_run_started(0),
     SCRIPT_STARTED,
     SCRIPT_SLOW,
     # The script wrote to both streams at once, and set a variable.
-    {
-        **script_finished("0000000000000002-combined", **{"env-map": {"X": "y"}}),
-        "args": ["a b", "c"],
-    },
+    SCRIPT_FINISHED,
     test_started(),
     TEST_SLOW,
     # A first attempt that could not be started.
@@ -142,56 +154,80 @@ WITHOUT_OUTPUTS = replaced(
     replaced(WITH_OUTPUTS, b"combined=5", b"not-loaded"), b"stdout=9 stderr=0", b"not-loaded"
 )
 
-# A suite of a script, and one of a binary, whose cases are a test that passed at its second attempt and one that didn't run.
+# A suite of a script, and one of a binary, whose cases are a test that passed at its second attempt
+# and one that didn't run.
 REPORT = (
-    b'{"name":"nextest-run","run-id":"550e8400-e29b-41d4-a716-446655440000","suites":[{"cases":[{"classname":"@setup-script:db",'
-    b'"name":"db","status":{"success":[]},"time":{"nanos":0,"secs":1},"timestamp":{"nanos":0,"offset":0,"secs":1000}}],'
-    b'"name":"@setup-script:db","properties":[{"name":"command","value":"./db.sh"},{"name":"args","value":"\'a b\' c"},'
-    b'{"name":"output-env:X","value":"y"}]},{"cases":[{"classname":"bin-0","name":"t0","status":{"success":[{"description":'
-    b'"no such file","kind":"error","message":"no such file","system-err":"(process failed to start)","system-out":'
-    b'"(process failed to start)","time":{"nanos":0,"secs":1},"timestamp":{"nanos":0,"offset":0,"secs":1000},"type-text":'
-    b'"execution failure"}]},"system-err":"","system-out":"nine byte","time":{"nanos":0,"secs":2},"timestamp":{"nanos":0,'
-    b'"offset":0,"secs":1001}},{"classname":"bin-0","name":"t1","status":{"skipped":"Skipped: test is in a different partition"},'
-    b'"time":{"nanos":0,"secs":0}}],"name":"bin-0","properties":[]}],"time":{"nanos":0,"secs":9},"timestamp":{"nanos":0,'
-    b'"offset":0,"secs":7}}\n'
+    b'{"name":"nextest-run","run-id":"550e8400-e29b-41d4-a716-446655440000",'
+    b'"suites":[{"cases":[{"classname":"@setup-script:db","name":"db","status":{"success":[]},'
+    b'"time":{"nanos":0,"secs":1},"timestamp":{"nanos":0,"offset":0,"secs":1000}}],'
+    b'"name":"@setup-script:db","properties":[{"name":"command","value":"./db.sh"},{"name":"args",'
+    b'"value":"\'a b\' c"},{"name":"output-env:X","value":"y"}]},{"cases":[{"classname":"bin-0",'
+    b'"name":"t0","status":{"success":[{"description":"no such file","kind":"error","message":"no '
+    b'such file","system-err":"(process failed to start)","system-out":"(process failed to start)",'
+    b'"time":{"nanos":0,"secs":1},"timestamp":{"nanos":0,"offset":0,"secs":1000},'
+    b'"type-text":"execution failure"}]},"system-err":"","system-out":"nine byte",'
+    b'"time":{"nanos":0,"secs":2},"timestamp":{"nanos":0,"offset":0,"secs":1001}},'
+    b'{"classname":"bin-0","name":"t1","status":{"skipped":"Skipped: test is in a different '
+    b'partition"},"time":{"nanos":0,"secs":0}}],"name":"bin-0","properties":[]}],"time":{"nanos":0,'
+    b'"secs":9},"timestamp":{"nanos":0,"offset":0,"secs":7}}\n'
 )
 
 EACH_KIND = run_bundle(log(KINDS), stored())
 
-# Parts that are missing or faulty. The log isn't UTF-8, or has two blank lines before a line that is no event.
+# Parts that are missing or faulty. The log isn't UTF-8, or has two blank lines before a line that
+# is no event.
+
+
+class Parts(NamedTuple):
+    """What is wrong with a bundle's parts, its log and store, and the line that says so."""
+
+    name: str
+    log: bytes | None
+    store: bytes | None
+    line: bytes
+
+
+class Unread(NamedTuple):
+    """What is wrong with a bundle, the bundle, and the status and the line that say so."""
+
+    name: str
+    bundle: bytes
+    status: int
+    line: bytes
+
 
 UNREADABLE = b"\xFF"
 NO_EVENT = b"\n\n{}\n\xFF"
 
 PARTS = (
-    ("no log and no store", None, None, b"MissingFile file_name=run.log.zst\n"),
-    (
+    Parts("no log and no store", None, None, b"MissingFile file_name=run.log.zst\n"),
+    Parts(
         "no log, and a store that is no container",
         None,
         b"PK",
         b"MissingFile file_name=run.log.zst\n",
     ),
-    ("no store", UNREADABLE, None, b"MissingFile file_name=store.zip\n"),
-    ("a store that is no container", UNREADABLE, b"PK", b"ReadArchive fault=BadMagic\n"),
-    (
+    Parts("no store", UNREADABLE, None, b"MissingFile file_name=store.zip\n"),
+    Parts("a store that is no container", UNREADABLE, b"PK", b"ReadArchive fault=BadMagic\n"),
+    Parts(
         "no options and no test list",
         UNREADABLE,
         stored(None, None),
         b"FileNotFound file_name=meta/record-opts.json\n",
     ),
-    (
+    Parts(
         "options without a mode",
         UNREADABLE,
         stored(b"{}", None),
         b"DeserializeMetadata file_name=meta/record-opts.json\n",
     ),
-    (
+    Parts(
         "no test list",
         UNREADABLE,
         stored(tests=None),
         b"FileNotFound file_name=meta/test-list.json\n",
     ),
-    (
+    Parts(
         "a test list without suites",
         UNREADABLE,
         stored(tests=b"[]"),
@@ -199,7 +235,8 @@ PARTS = (
     ),
 )
 
-# Other bundles of which no event is printed, by what is wrong with them, and the status and the line of each command.
+# Other bundles of which no event is printed, by what is wrong with them, and the status and the
+# line of each command.
 
 UNKNOWN_T1 = b"TestNotFound binary_id=alpha::a test_name=t1\n"
 STRESS_OF_NONE = replaced(
@@ -210,72 +247,82 @@ OTHER_TEST = replaced(
 )
 
 REFUSED = [
-    ("no log", bundle(None, store()), 12, b"MissingFile file_name=run.log.zst\n"),
-    ("no store", bundle(b"x", None), 12, b"MissingFile file_name=store.zip\n"),
-    ("a store of other bytes", bundle(b"", b"PK"), 12, b"ReadArchive fault=BadMagic\n"),
-    ("a store that is cut", bundle(b"", b"nxtcont1"), 12, b"ReadArchive fault=Truncated at=8\n"),
-    (
+    Unread("no log", bundle(None, store()), 12, b"MissingFile file_name=run.log.zst\n"),
+    Unread("no store", bundle(b"x", None), 12, b"MissingFile file_name=store.zip\n"),
+    Unread("a store of other bytes", bundle(b"", b"PK"), 12, b"ReadArchive fault=BadMagic\n"),
+    Unread(
+        "a store that is cut", bundle(b"", b"nxtcont1"), 12, b"ReadArchive fault=Truncated at=8\n"
+    ),
+    Unread(
         "neither options nor tests",
         bundle(b"", store(None, None)),
         12,
         b"FileNotFound file_name=meta/record-opts.json\n",
     ),
-    (
+    Unread(
         "another mode",
         bundle(b"", store(b'{"run-mode":"x"}')),
         12,
         b"DeserializeMetadata file_name=meta/record-opts.json\n",
     ),
-    (
+    Unread(
         "no tests",
         bundle(b"", store(OPTIONS, None)),
         12,
         b"FileNotFound file_name=meta/test-list.json\n",
     ),
-    (
+    Unread(
         "tests without suites",
         bundle(b"", store(OPTIONS, b"{}")),
         12,
         b"DeserializeMetadata file_name=meta/test-list.json\n",
     ),
-    (
+    Unread(
         "tests that are no JSON",
         bundle(b"{}", store(OPTIONS, b"x")),
         12,
         b"DeserializeMetadata file_name=meta/test-list.json\n",
     ),
-    ("no event after blank lines", bundle(b"\n\n{}", store()), 5, b"ParseEvent line_number=3\n"),
-    ("no event in line 4", bundle(b"\n\n\n{}", store()), 5, b"ParseEvent line_number=4\n"),
-    ("no event in the first line", bundle(b"x\n{}", store()), 5, b"ParseEvent line_number=1\n"),
-    ("neither an event nor a store", bundle(b"x", b""), 12, b"ReadArchive fault=BadMagic\n"),
-    ("an unknown test first", bundle(log_of(TEST_STARTED, b"{}"), store()), 13, UNKNOWN_T1),
-    (
+    Unread(
+        "no event after blank lines", bundle(b"\n\n{}", store()), 5, b"ParseEvent line_number=3\n"
+    ),
+    Unread("no event in line 4", bundle(b"\n\n\n{}", store()), 5, b"ParseEvent line_number=4\n"),
+    Unread(
+        "no event in the first line", bundle(b"x\n{}", store()), 5, b"ParseEvent line_number=1\n"
+    ),
+    Unread("neither an event nor a store", bundle(b"x", b""), 12, b"ReadArchive fault=BadMagic\n"),
+    Unread("an unknown test first", bundle(log_of(TEST_STARTED, b"{}"), store()), 13, UNKNOWN_T1),
+    Unread(
         "an unknown test after the run",
         bundle(log_of(RUN_STARTED, TEST_STARTED), store()),
         13,
         UNKNOWN_T1,
     ),
-    (
+    Unread(
         "another unknown test",
         bundle(log_of(OTHER_TEST), store()),
         13,
         b"TestNotFound binary_id=a test_name=t\n",
     ),
-    (
+    Unread(
         "no event before an unknown test",
         bundle(log_of(b"{}", TEST_STARTED), store()),
         5,
         b"ParseEvent line_number=1\n",
     ),
-    (
+    Unread(
         "a stress run of no runs",
         bundle(log_of(RUN_STARTED, STRESS_OF_NONE), store()),
         13,
         b"InvalidStressCount\n",
     ),
-    ("a line that is no text", bundle(b"\n\xff\n{}", store()), 5, b"ReadRunLog line_number=2\n"),
-    ("line 3 that is no text", bundle(b"\n\n\xff\n", store()), 5, b"ReadRunLog line_number=3\n"),
-    ("no entries", b"nxtcont1\0", 12, b"NotAWrapperArchive file_count=0 zip_count=0\n"),
+    Unread(
+        "a line that is no text", bundle(b"\n\xff\n{}", store()), 5, b"ReadRunLog line_number=2\n"
+    ),
+    Unread(
+        "line 3 that is no text", bundle(b"\n\n\xff\n", store()), 5, b"ReadRunLog line_number=3\n"
+    ),
+    Unread("no entries", b"nxtcont1\0", 12, b"NotAWrapperArchive file_count=0 zip_count=0\n"),
 ]
 
 # What `replay` says of stores. The record options are read first, and then the test list.
@@ -283,39 +330,43 @@ REFUSED = [
 OF_BENCHMARK = b"meta/record-opts.json", BENCHMARK
 
 
-def of_store(*contents):
+def of_store(*contents: Entry) -> bytes:
     """The bundle of an empty log, and a store of these contents."""
     return bundle(b"", container(contents), MANIFEST_3_0)
 
 
 STORES = (
-    (
+    Unread(
         "no store",
         held((b"manifest.json", MANIFEST_3_0), (b"run.log.zst", b"kept")),
         12,
         b"MissingFile file_name=store.zip\n",
     ),
-    (
+    Unread(
         "a store that is cut off",
         bundle(b"", b"nxtcont1\x01\x00", MANIFEST_3_0),
         12,
         b"ReadArchive fault=Truncated at=9\n",
     ),
-    ("a store without entries", of_store(), 12, b"FileNotFound file_name=meta/record-opts.json\n"),
-    ("no options", of_store((b"x", b"")), 12, b"FileNotFound file_name=meta/record-opts.json\n"),
-    (
+    Unread(
+        "a store without entries", of_store(), 12, b"FileNotFound file_name=meta/record-opts.json\n"
+    ),
+    Unread(
+        "no options", of_store((b"x", b"")), 12, b"FileNotFound file_name=meta/record-opts.json\n"
+    ),
+    Unread(
         "no test list",
         of_store((b"x", b""), OF_BENCHMARK),
         12,
         b"FileNotFound file_name=meta/test-list.json\n",
     ),
-    (
+    Unread(
         "a long test list",
         of_store((b"meta/test-list.json", b" " * 1001), OF_BENCHMARK),
         7,
         b"FileTooLarge file_name=meta/test-list.json size=1001 limit=1000\n",
     ),
-    (
+    Unread(
         "a blank test list",
         of_store((b"meta/test-list.json", b" " * 1000), OF_BENCHMARK),
         12,
@@ -326,31 +377,32 @@ STORES = (
 # Parts of a length, with blanks after their texts.
 
 
-def of_log(length):
+def of_log(length: int) -> bytes:
     return run_bundle(b"\n".ljust(length), stored())
 
 
-def of_options(length):
+def of_options(length: int) -> bytes:
     return run_bundle(b"\n", stored(options=OPTIONS.ljust(length)))
 
 
-def of_tests(length):
+def of_tests(length: int) -> bytes:
     return run_bundle(b"\n", stored(tests=TWO_TESTS.ljust(length)))
 
 
 LIMIT_900 = ("--read-limit", "900")
 
-# Logs of two lines, of which one can't be read, or is of an event that isn't printed. An entry may have 9000 bytes.
+# Logs of two lines, of which one can't be read, or is of an event that isn't printed. An entry may
+# have 9000 bytes.
 
 LIMIT_9000 = ("--read-limit", "9000")
 
 
-def ended(output, result):
+def ended(output: Members, result: object) -> Members:
     """An attempt that began at second 1000 and took one second."""
     return {"output": output, "result": result, **attempt(output, result)}
 
 
-def passed(name):
+def passed(name: str) -> bytes:
     """The end of the test `t0`, which passed and wrote the output of this name."""
     return line(test_finished(ended(standard_output(name), "pass")))
 
@@ -369,7 +421,7 @@ FAILED_AFTER_SUCCESS = line(
 BLANK = b""
 
 
-def of_lines(first, second):
+def of_lines(first: bytes, second: bytes) -> bytes:
     return run_bundle(first + b"\n" + second + b"\n", stored())
 
 
@@ -402,7 +454,7 @@ NOT_LOADED_TWICE = NOT_LOADED + b"1002.000000005 test-finished bin-0 t0 not-load
 NINE_BYTES = HEADER + b"1002.000000005 test-finished bin-0 t0 stdout=9 stderr=-\n"
 
 # What is replayed with outputs and without, and reported: a text, or a status and a line.
-LINES = (
+LINES: tuple[tuple[str, bytes, bytes, Printed, Printed, Printed], ...] = (
     ("a missing output", MISSING_OUTPUT, BLANK, MISSING, NOT_LOADED, MISSING),
     ("a long output", LONG_OUTPUT, BLANK, TOO_LONG, NOT_LOADED, TOO_LONG),
     ("a missing output before bytes", MISSING_OUTPUT, UNREADABLE, MISSING, UNREADABLE_2, MISSING),
@@ -426,7 +478,7 @@ LINES = (
 )
 
 
-def printed(name, first, second, *results):
+def printed(name: str, first: bytes, second: bytes, *results: Printed) -> Iterator[Case]:
     """What each of the commands prints of a log of two lines."""
     for words, result in zip(PRINTS, results):
         status, out, err = (
@@ -443,12 +495,13 @@ def printed(name, first, second, *results):
 PASSED = finished(b'{"split":{"stdout":{"full":"0000000000000001-stdout"}}}')
 
 
-def bundle_of_test(line, output):
-    """A bundle of the end of a test, with the output that it names."""
-    return bundle(line, store(OPTIONS, ONE_TEST, [(b"out/0000000000000001-stdout", output)]))
+def bundle_of_test(line: bytes, *outputs: bytes) -> bytes:
+    """Make a bundle of the end of a test, with the output that it names or without it."""
+    named = [(b"out/0000000000000001-stdout", output) for output in outputs]
+    return bundle(line, store(OPTIONS, ONE_TEST, named))
 
 
-WITHOUT_OUTPUT = bundle_of_test(PASSED, None)
+WITHOUT_OUTPUT = bundle_of_test(PASSED)
 MISSING_1 = b"RecordRead FileNotFound file_name=out/0000000000000001-stdout\n"
 WITH_OUTPUT = bundle_of_test(PASSED, b"hello")
 LOADED_LINE = b"1002.000000000 test-finished alpha::a t1 stdout=5 stderr=-\n"
@@ -465,29 +518,32 @@ PASSED_THEN_FAILED = replaced(
     replaced(
         PASSED,
         b'"statuses":[',
-        b'"statuses":[{"retry-data":{"attempt":1,"total-attempts":2},"output":{"start-error":"x"},"result":"pass",'
-        b'"start-time":{"secs":1001,"nanos":0,"offset":0},"time-taken":{"secs":1,"nanos":0},"is-slow":false,'
-        b'"delay-before-start":{"secs":0,"nanos":0}},',
+        b'"statuses":[{"retry-data":{"attempt":1,"total-attempts":2},"output":{"start-error":"x"},'
+        b'"result":"pass","start-time":{"secs":1001,"nanos":0,"offset":0},"time-taken":{"secs":1,'
+        b'"nanos":0},"is-slow":false,"delay-before-start":{"secs":0,"nanos":0}},',
     ),
-    b'"result":"pass","start-time":{"secs":1001,"nanos":0,"offset":0},"time-taken":{"secs":1,"nanos":0},"is-slow":false,'
+    b'"result":"pass","start-time":{"secs":1001,"nanos":0,"offset":0},"time-taken":{"secs":1,'
+    b'"nanos":0},"is-slow":false,"delay-before-start":{"secs":0,"nanos":0}}],',
+    b'"result":{"fail":{"failure":{"exit-code":1},"leaked":false}},"start-time":{"secs":1001,'
+    b'"nanos":0,"offset":0},"time-taken":{"secs":1,"nanos":0},"is-slow":false,'
     b'"delay-before-start":{"secs":0,"nanos":0}}],',
-    b'"result":{"fail":{"failure":{"exit-code":1},"leaked":false}},"start-time":{"secs":1001,"nanos":0,"offset":0},'
-    b'"time-taken":{"secs":1,"nanos":0},"is-slow":false,"delay-before-start":{"secs":0,"nanos":0}}],',
 )
 SUCCESS_FIRST = bundle_of_test(PASSED_THEN_FAILED, b"hello")
 
 # Runs and their reports.
 
 
-def of_skipped(name):
+def of_skipped(name: bytes) -> bytes:
     """The report of the run of a test that was skipped."""
     return (
-        b'{"name":"nextest-run","run-id":"550e8400-e29b-41d4-a716-446655440000","suites":[{"cases":[{"classname":"bin-0",'
-        b'"name":"'
+        b'{"name":"nextest-run","run-id":"550e8400-e29b-41d4-a716-446655440000",'
+        b'"suites":[{"cases":[{"classname":"bin-0","name":"'
         + name
-        + b'","status":{"skipped":"Skipped: test does not match the run-ignored option"},'
-        b'"time":{"nanos":0,"secs":0}}],"name":"bin-0","properties":[]}],"time":{"nanos":0,"secs":9},'
-        b'"timestamp":{"nanos":0,"offset":0,"secs":7}}\n'
+        + (
+            b'","status":{"skipped":"Skipped: test does not match the run-ignored option"},'
+            b'"time":{"nanos":0,"secs":0}}],"name":"bin-0","properties":[]}],"time":{"nanos":0,'
+            b'"secs":9},"timestamp":{"nanos":0,"offset":0,"secs":7}}\n'
+        )
     )
 
 

@@ -1,12 +1,12 @@
 """What `replay` prints of a run's head and of each event, and which events it refuses."""
 
-from workshop.cases.case import Case
-from workshop.cases.made import (
+from __future__ import annotations
+
+from workshop.cases.case import Case, Words
+from workshop.cases.events import (
     CANCEL,
     CONTINUATION,
     NO_RUNS,
-    NO_TESTS,
-    OPTIONS,
     PAUSE,
     RETRY_STARTED,
     SCRIPT_SLOW,
@@ -17,22 +17,27 @@ from workshop.cases.made import (
     attempt,
     attempt_failed,
     captured,
-    duration,
-    instant,
-    line,
-    log,
-    run_bundle,
     run_finished,
     run_started,
     script_finished,
     stats,
-    store,
     sub_run_finished,
     sub_run_started,
     test,
     test_finished,
     test_skipped,
     test_started,
+)
+from workshop.cases.made import (
+    NO_TESTS,
+    OPTIONS,
+    Members,
+    duration,
+    instant,
+    line,
+    log,
+    run_bundle,
+    store,
 )
 from workshop.cases.texts import HEADER
 
@@ -48,12 +53,12 @@ OUTPUTS = (
 )
 
 
-def of_events(*events, tests=TESTS):
+def of_events(*events: Members, tests: bytes = TESTS) -> bytes:
     """The bundle of these events, of which the test list is given."""
     return run_bundle(log(events), store(OPTIONS, tests, OUTPUTS))
 
 
-def finished(first, last):
+def finished(first: Members, last: Members) -> Members:
     """The end of a test whose attempts have these outputs."""
     return test_finished(*[attempt(captured(output), "pass", total=1) for output in (first, last)])
 
@@ -64,7 +69,7 @@ ONE_NOT_SEEN = {"outstanding-not-seen": {"not-seen": [test("y", "x")], "total-no
 # Events without outputs, and their lines.
 LINES = (
     (run_started(), b"1002.000000005 run-started\n"),
-    (run_started(**{"stress-condition": {"count": None}}), b"1002.000000005 run-started\n"),
+    (run_started(more={"stress-condition": {"count": None}}), b"1002.000000005 run-started\n"),
     (sub_run_started(1), b"1002.000000005 stress-sub-run-started\n"),
     (
         sub_run_finished(
@@ -101,17 +106,17 @@ LINES = (
 EARLY_PAUSE = run_bundle(
     line({**PAUSE, "running": 0}, instant(-1, 999_999_999), elapsed=0), store(OPTIONS, TESTS)
 )
-EMPTY = {"combined": "empty"}
-NINE = {"split": {"stdout": {"full": "0000000000000001-stdout"}}}
-CUT = {
+EMPTY: Members = {"combined": "empty"}
+NINE: Members = {"split": {"stdout": {"full": "0000000000000001-stdout"}}}
+CUT: Members = {
     "split": {
         "stdout": "empty",
         "stderr": {"truncated": {"file-name": "0000000000000002-stderr", "original-size": 500}},
     }
 }
-LONG = {"split": {"stdout": {"full": "0000000000000004-stdout"}}}
-MISSING = {"split": {"stdout": "empty", "stderr": {"full": "0000000000000009-stderr"}}}
-BOTH_MISSING = {
+LONG: Members = {"split": {"stdout": {"full": "0000000000000004-stdout"}}}
+MISSING: Members = {"split": {"stdout": "empty", "stderr": {"full": "0000000000000009-stderr"}}}
+BOTH_MISSING: Members = {
     "split": {
         "stdout": {"full": "0000000000000008-stdout"},
         "stderr": {"full": "0000000000000009-stderr"},
@@ -119,7 +124,7 @@ BOTH_MISSING = {
 }
 NOT_LOADED = b"1002.000000005 test-finished bin-0 t0 not-loaded\n"
 
-ENDS = (
+ENDS: tuple[tuple[str, Words, Members, Members, bytes], ...] = (
     (
         "an output",
         LOADED,
@@ -149,12 +154,12 @@ UNREAD = (
     ("a long output before a missing one", LONG, MISSING, TOO_LONG),
 )
 TWO_TESTS = b'{"suites":{"b":["t"],"a":["u"]}}'
-B_T, A_U, A_T = (
-    test_skipped(name, "ignored", "none", binary) for binary, name in ("bt", "au", "at")
-)
+B_T = test_skipped("t", "ignored", "none", "b")
+A_U = test_skipped("u", "ignored", "none", "a")
+A_T = test_skipped("t", "ignored", "none", "a")
 
 
-def refused(name, event, line):
+def refused(name: str, event: Members, line: bytes) -> list[Case]:
     """An event that is refused, whether outputs are loaded or not."""
     return [
         Case(f"{name}: {' '.join(words)}", words, of_events(event), 13, err=line)
@@ -165,7 +170,7 @@ def refused(name, event, line):
 COUNTS = {"initial-run-count": 1, "passed": 1, "failed": 0, "exit-code": 0}
 STRESS_COUNTS = {"success-count": 1, "failed-count": 0, "exit-code": 0}
 
-WORDS = (
+WORDS: tuple[tuple[Members, bytes], ...] = (
     ({"status": "incomplete"}, b"incomplete"),
     ({"status": "completed", **COUNTS}, b"completed"),
     ({"status": "cancelled", **COUNTS}, b"cancelled"),
@@ -175,7 +180,7 @@ WORDS = (
 )
 
 
-def header(status, word):
+def header(status: Members, word: bytes) -> Case:
     """The line of a run that ended so."""
     return Case(
         f"the status {status['status']}",

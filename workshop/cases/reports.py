@@ -1,27 +1,34 @@
 """What `report` says of tests and setup scripts: their suites, cases, endings and outputs."""
 
+from __future__ import annotations
+
 import json
+from collections.abc import Iterator, Mapping, Sequence
 
 from workshop.cases.case import Case, Holds, both
-from workshop.cases.made import (
-    BENCHMARK,
-    OPTIONS,
+from workshop.cases.events import (
     PAUSE,
     RUN_FINISHED,
     START_ERROR,
     attempt,
     captured,
-    compact,
     course,
+    script_ended,
+    script_members,
+    test,
+    test_finished,
+    test_skipped,
+)
+from workshop.cases.made import (
+    BENCHMARK,
+    OPTIONS,
+    Members,
+    compact,
     duration,
     instant,
     log,
     run_bundle,
-    script_ended,
     store,
-    test,
-    test_finished,
-    test_skipped,
 )
 
 REPORTED = ("report",)
@@ -40,7 +47,7 @@ OUTPUTS = (
 )
 
 
-def text_at(report, path):
+def text_at(report: bytes, path: str) -> str:
     """The JSON at a path of the first report, empty where there is none."""
     found = json.loads(report.partition(b"\n")[0] or b"null")
     for name in path.split("/")[1:]:
@@ -55,11 +62,13 @@ def text_at(report, path):
     return compact(found).decode()
 
 
-def says(path, text):
+def says(path: str, text: str) -> Holds:
     return Holds(f"{text or 'nothing'} at {path}", lambda report: text_at(report, path) == text)
 
 
-def of_events(tests, *events, options=OPTIONS):
+def of_events(
+    tests: Mapping[str, Sequence[str]], *events: Members, options: bytes = OPTIONS
+) -> bytes:
     """The bundle of a run of these events."""
     return run_bundle(
         log([*events, RUN_FINISHED]), store(options, compact({"suites": tests}), OUTPUTS)
@@ -81,7 +90,7 @@ RESULTS = {
 }
 
 
-def split(**names):
+def split(**names: bytes) -> Members:
     return captured(
         {
             "split": {
@@ -103,11 +112,20 @@ WROTE = {
 }
 
 
-def finished(ended, wrote, flags, name="t", binary="bin", index=None):
-    """The end of a test whose attempts ended and wrote so; the attempt of a number began at that second and took so long.
+def finished(
+    ended: str,
+    wrote: str,
+    flags: str,
+    name: str = "t",
+    binary: str = "bin",
+    index: Members | None = None,
+) -> Members:
+    """The end of a test whose attempts ended and wrote so.
 
-    `f` in the flags says that it counts as failed where it is flaky, `s` that it is then reported as a success, `+` and `-`
-    that outputs of successes and of failures are stored.
+    The attempt of a number began at that second and took so long.
+
+    `f` in the flags says that it counts as failed where it is flaky, `s` that it is then reported
+    as a success, `+` and `-` that outputs of successes and of failures are stored.
     """
     attempts = [
         attempt(WROTE[output], RESULTS[result], number, 3, start=number, taken=number)
@@ -118,28 +136,31 @@ def finished(ended, wrote, flags, name="t", binary="bin", index=None):
     return test_finished(*attempts, of=test(name, binary), stores=stores, flaky=flaky, index=index)
 
 
-def of_test(ended, wrote, flags, options=OPTIONS):
+def of_test(ended: str, wrote: str, flags: str, options: bytes = OPTIONS) -> bytes:
     return of_events({"bin": ["t"]}, finished(ended, wrote, flags), options=options)
 
 
 # What is said of a first attempt that was aborted, before one that passed.
 FLAKY = (
-    '{"success":[{"kind":"failure","time":{"nanos":0,"secs":1},"timestamp":{"nanos":0,"offset":0,"secs":1},"type-text":'
-    '"test abort"}]}'
+    '{"success":[{"kind":"failure","time":{"nanos":0,"secs":1},"timestamp":{"nanos":0,"offset":0,'
+    '"secs":1},"type-text":"test abort"}]}'
 )
 
 # The same where it counts as failed, and is reported so.
 FLAKY_FAILURE = (
-    '{"non-success":{"kind":"failure","message":"test passed on attempt 2/3 but is configured to fail when flaky","rerun-kind":'
-    '"flaky","reruns":[{"kind":"failure","time":{"nanos":0,"secs":1},"timestamp":{"nanos":0,"offset":0,"secs":1},"type-text":'
-    '"test abort"}],"type-text":"flaky failure"}}'
+    '{"non-success":{"kind":"failure","message":"test passed on attempt 2/3 but is configured to '
+    'fail when flaky","rerun-kind":"flaky","reruns":[{"kind":"failure","time":{"nanos":0,"secs":1},'
+    '"timestamp":{"nanos":0,"offset":0,"secs":1},"type-text":"test abort"}],"type-text":"flaky '
+    'failure"}}'
 )
 
 # What is said of an abort before an exit code and a process that could not be started.
 FAILURE = (
-    '{"non-success":{"kind":"failure","rerun-kind":"rerun","reruns":[{"kind":"failure","time":{"nanos":0,"secs":2},"timestamp":'
-    '{"nanos":0,"offset":0,"secs":2},"type-text":"test failure with exit code 101"},{"kind":"error","time":{"nanos":0,"secs":3},'
-    '"timestamp":{"nanos":0,"offset":0,"secs":3},"type-text":"execution failure"}],"type-text":"test abort"}}'
+    '{"non-success":{"kind":"failure","rerun-kind":"rerun","reruns":[{"kind":"failure",'
+    '"time":{"nanos":0,"secs":2},"timestamp":{"nanos":0,"offset":0,"secs":2},"type-text":"test '
+    'failure with exit code 101"},{"kind":"error","time":{"nanos":0,"secs":3},'
+    '"timestamp":{"nanos":0,"offset":0,"secs":3},"type-text":"execution failure"}],'
+    '"type-text":"test abort"}}'
 )
 
 # What a report says at a path of its case, of a test whose attempts ended and wrote so.
@@ -195,14 +216,8 @@ ENDS = {
         ("p", "u", "+", '""'),
         ("x", "!", "-", '"(process failed to start)"'),
     ),
-    "/status/success/0/system-out": (
-        ("cp", "sb", "-", '"stdout"'),
-        ("cp", "sb", "+", ""),
-    ),
-    "/status/success/0/system-err": (
-        ("cp", "sb", "-", '"stderr"'),
-        ("cp", "sb", "+", ""),
-    ),
+    "/status/success/0/system-out": (("cp", "sb", "-", '"stdout"'), ("cp", "sb", "+", "")),
+    "/status/success/0/system-err": (("cp", "sb", "-", '"stderr"'), ("cp", "sb", "+", "")),
     "/status/non-success/reruns/0/system-out": (
         ("ck", "so", "-", '"stdout"'),
         ("cc", "sb", "+", ""),
@@ -225,7 +240,8 @@ ENDS = {
     ),
 }
 
-# What stands in system-out and system-err of a test that ended and wrote so. What isn't stored has neither.
+# What stands in system-out and system-err of a test that ended and wrote so. What isn't stored has
+# neither.
 STORED = (
     ("p", "b", "+", '"both"', '"(stdout and stderr are combined)"'),
     ("p", "b", "-", "", ""),
@@ -242,7 +258,7 @@ STORED = (
 REFUSED = (("pp", "ss", ""), ("tc", "ss", ""), ("cpc", "sss", ""))
 
 
-def ends():
+def ends() -> Iterator[Case]:
     """What a report says of each end of a test."""
     for path, rows in ENDS.items():
         for ended, wrote, flags, text in rows:
@@ -254,7 +270,7 @@ def ends():
             )
 
 
-def stored():
+def stored() -> Iterator[Case]:
     """What a report has of both streams."""
     for ended, wrote, flags, out, err in STORED:
         yield Case(
@@ -270,13 +286,14 @@ def stored():
 # Tests that don't run, by why they don't and the policy of the report.
 
 IGNORED = (
-    '[{"cases":[{"classname":"my-crate::my-bin","name":"tests::my_skipped_test","status":{"skipped":'
-    '"Skipped: test does not match the run-ignored option"},"time":{"nanos":0,"secs":0}}],"name":"my-crate::my-bin",'
-    '"properties":[]}]'
+    '[{"cases":[{"classname":"my-crate::my-bin","name":"tests::my_skipped_test",'
+    '"status":{"skipped":"Skipped: test does not match the run-ignored option"},"time":{"nanos":0,'
+    '"secs":0}}],"name":"my-crate::my-bin","properties":[]}]'
 )
 ELSEWHERE = (
-    '[{"cases":[{"classname":"my-crate::my-bin","name":"tests::my_skipped_test","status":{"skipped":'
-    '"Skipped: test is in a different partition"},"time":{"nanos":0,"secs":0}}],"name":"my-crate::my-bin","properties":[]}]'
+    '[{"cases":[{"classname":"my-crate::my-bin","name":"tests::my_skipped_test",'
+    '"status":{"skipped":"Skipped: test is in a different partition"},"time":{"nanos":0,'
+    '"secs":0}}],"name":"my-crate::my-bin","properties":[]}]'
 )
 
 SKIPS = (
@@ -287,7 +304,7 @@ SKIPS = (
 )
 
 
-def of_skipped(reason, policy):
+def of_skipped(reason: str, policy: str) -> bytes:
     skipped = test_skipped("tests::my_skipped_test", reason, policy, "my-crate::my-bin")
     return of_events({"my-crate::my-bin": ["tests::my_skipped_test"]}, skipped)
 
@@ -295,27 +312,30 @@ def of_skipped(reason, policy):
 SECOND, SECOND_OF_4 = {"current": 1}, {"current": 1, "total": 4}
 
 
-def of_script(args, result, output, **rest):
+def of_script(args: Sequence[str], result: object, output: Members, **rest: object) -> bytes:
     """The run of a script that ended and wrote so."""
-    ran = {
-        **course(output, result, instant(3), duration(4)),
-        "env-map": {"URL": "db://", "PORT": "1"},
-    }
-    script = script_ended(ran, program="./prepare db", args=args)
+    ran = course(output, result, instant(3), duration(4))
+    set_by_it = {"env-map": {"URL": "db://", "PORT": "1"}}
+    members = script_members(program="./prepare db", args=args)
+    script = script_ended({**ran, **set_by_it}, members)
     return of_events({}, {"kind": script["kind"], **rest, **script}, options=BENCHMARK)
 
 
 # What is said of a script that was stopped for its time, in the second run of a stress run.
 SCRIPT_FAILED = (
-    r'{"cases":[{"classname":"@setup-script:db@stress-1","name":"db","status":{"non-success":{"description":"first\nsecond",'
-    '"kind":"failure","message":"first","rerun-kind":"rerun","reruns":[],"type-text":"script timeout"}},"time":{"nanos":0,'
-    '"secs":4},"timestamp":{"nanos":0,"offset":0,"secs":3}}],"name":"@setup-script:db@stress-1","properties":[{"name":"command",'
-    '"value":"./prepare db"},{"name":"args","value":"\'a b\' c"},{"name":"output-env:PORT","value":"1"},{"name":'
+    r'{"cases":[{"classname":"@setup-script:db@stress-1","name":"db",'
+    r'"status":{"non-success":{"description":"first\nsecond",'
+    '"kind":"failure","message":"first","rerun-kind":"rerun","reruns":[],"type-text":"script '
+    'timeout"}},"time":{"nanos":0,'
+    '"secs":4},"timestamp":{"nanos":0,"offset":0,"secs":3}}],"name":"@setup-script:db@stress-1",'
+    '"properties":[{"name":"command",'
+    '"value":"./prepare db"},{"name":"args","value":"\'a b\' c"},{"name":"output-env:PORT",'
+    '"value":"1"},{"name":'
     '"output-env:URL","value":"db://"}]}'
 )
 
 # Words, and how a shell reads them.
-JOINED = (
+JOINED: tuple[tuple[list[str], str], ...] = (
     ([], ""),
     (["a b", "c"], "'a b' c"),
     (["", "x"], "'' x"),
@@ -325,21 +345,25 @@ JOINED = (
     (["$x"], "'$x'"),
     (["grün"], "'grün'"),
 )
-TAIL = '"status":{"success":[]},"time":{"nanos":0,"secs":1},"timestamp":{"nanos":0,"offset":0,"secs":1}}'
+TAIL = (
+    '"status":{"success":[]},"time":{"nanos":0,"secs":1},"timestamp":{"nanos":0,"offset":0,'
+    '"secs":1}}'
+)
 B = '{"cases":[{"classname":"b","name"'
 
 FIRST_SUITES = (
-    f'[{B}:"t1",{TAIL},{{"classname":"b","name":"t7",{TAIL}],"name":"b","properties":[]}},{{"cases":[{{"classname":"a","name":'
-    f'"t2",{TAIL}],"name":"a","properties":[]}},{B}:"t4",{TAIL},{{"classname":"b","name":"t8",{TAIL}],"name":"b@stress-1",'
-    f'"properties":[]}},{B}:"t5",{TAIL}],"name":"b@stress-1","properties":[]}}]'
+    f'[{B}:"t1",{TAIL},{{"classname":"b","name":"t7",{TAIL}],"name":"b","properties":[]}},'
+    f'{{"cases":[{{"classname":"a","name":"t2",{TAIL}],"name":"a","properties":[]}},{B}:"t4",'
+    f'{TAIL},{{"classname":"b","name":"t8",{TAIL}],"name":"b@stress-1","properties":[]}},{B}:"t5",'
+    f'{TAIL}],"name":"b@stress-1","properties":[]}}]'
 )
 SECOND_SUITES = (
-    '[{"cases":[{"classname":"a","name":"t9","status":{"success":[]},"time":{"nanos":0,"secs":1},"timestamp":{"nanos":0,'
-    '"offset":0,"secs":1}}],"name":"a","properties":[]}]'
+    '[{"cases":[{"classname":"a","name":"t9","status":{"success":[]},"time":{"nanos":0,"secs":1},'
+    '"timestamp":{"nanos":0,"offset":0,"secs":1}}],"name":"a","properties":[]}]'
 )
 
 
-def passed(binary, name, index=None):
+def passed(binary: str, name: str, index: Members | None = None) -> Members:
     return finished("p", "s", "", name, binary, index)
 
 
@@ -356,7 +380,7 @@ TWO_RUNS = of_events(
 )
 
 
-def both_say(first, second):
+def both_say(first: str, second: str) -> Holds:
     """Two reports with these suites."""
     return Holds(
         f"reports of {first} and of {second}",

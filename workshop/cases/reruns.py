@@ -1,35 +1,42 @@
 """Which tests are to run again after a run, and what of its test list that means."""
 
-from workshop.cases.case import Case, Recorded
-from workshop.cases.head_values import SCOPE
-from workshop.cases.made import (
+from __future__ import annotations
+
+from collections.abc import Sequence
+from typing import TypeAlias
+
+from workshop.cases.case import Case, Recorded, Words
+from workshop.cases.events import (
     EXIT_CODE,
-    TRACED_MANIFEST,
-    Line,
     attempt,
     attempt_of,
-    bundle,
     captured,
-    compact,
-    end,
-    fail,
-    go_on,
-    held,
-    log_of,
-    pause,
-    retry,
     retry_started,
-    run,
-    run_end,
     slot,
-    start,
     test,
     test_finished,
     test_started,
+)
+from workshop.cases.head_values import SCOPE
+from workshop.cases.histories import (
+    TRACED_MANIFEST,
+    Line,
+    end,
+    fail,
+    go_on,
+    pause,
+    retry,
+    run,
+    run_end,
+    start,
     traced_log,
     traced_session,
 )
+from workshop.cases.made import bundle, compact, held, log_of
 from workshop.cases.texts import RUN_ID
+
+# A binary with its outstanding and its passing tests.
+Suite: TypeAlias = tuple[str, list[str], list[str]]
 
 PARENT_ID = "650e8400-e29b-41d4-a716-446655440000"
 ROOT_ID = "750e8400-e29b-41d4-a716-446655440000"
@@ -38,8 +45,10 @@ LEAKED = {"leak": "pass"}
 REUSED = b'{"build-kind":"reused","scope":{}}'
 
 
-def flaky(secs, number, counts_as):
-    """The end of a test whose first attempt failed and whose second one passed, and what that counts as."""
+def flaky(secs: int, number: int, counts_as: str) -> Line:
+    """The end of a test whose first attempt failed and whose second one passed, and what that
+    counts as.
+    """
     attempts = attempt(NO_OUTPUT, EXIT_CODE), attempt(NO_OUTPUT, "pass", 2)
     return Line(
         secs,
@@ -48,7 +57,7 @@ def flaky(secs, number, counts_as):
     )
 
 
-def retried(counts_as):
+def retried(counts_as: str) -> list[Line]:
     """Two binaries with two tests each, a pause, and a retry that passes."""
     return [
         run(1000),
@@ -68,8 +77,10 @@ def retried(counts_as):
     ]
 
 
-def selection(suites, root=RUN_ID, scope=SCOPE):
-    """The line of a selection after the run, whose root is this, with the outstanding and the passing tests of binaries."""
+def selection(suites: Sequence[Suite], root: str = RUN_ID, scope: str = SCOPE) -> str:
+    """The line of a selection after the run, whose root is this, with the outstanding and the
+    passing tests of binaries.
+    """
     sets = ",".join(
         '{"binary_id":"%s","outstanding":[%s],"passing":[%s]}'
         % (
@@ -85,7 +96,11 @@ def selection(suites, root=RUN_ID, scope=SCOPE):
     )
 
 
-def stored(scope=b'{"build-kind":"cargo","scope":{}}', rerun=None, tests=b'{"suites":{}}'):
+def stored(
+    scope: bytes | None = b'{"build-kind":"cargo","scope":{}}',
+    rerun: bytes | None = None,
+    tests: bytes | None = b'{"suites":{}}',
+) -> bytes:
     """A store with what is asked of it for a rerun."""
     return held(
         (b"meta/build-scope.json", scope),
@@ -94,7 +109,15 @@ def stored(scope=b'{"build-kind":"cargo","scope":{}}', rerun=None, tests=b'{"sui
     )
 
 
-def asked(name, log, store, out="", status=0, err="", options=()):
+def asked(
+    name: str,
+    log: bytes | None,
+    store: bytes | None,
+    out: str = "",
+    status: int = 0,
+    err: str = "",
+    options: Words = (),
+) -> Case:
     """A case of `rerun` over a bundle of this log and this store."""
     line = f"{err}\n".encode() if err else b""
     return Case(
@@ -107,7 +130,7 @@ def asked(name, log, store, out="", status=0, err="", options=()):
     )
 
 
-def rerun_of(suites):
+def rerun_of(suites: Sequence[Suite]) -> bytes:
     """The rerun info of a run that reran these."""
     named = [
         {"binary_id": binary, "outstanding": outstanding, "passing": passing}
@@ -117,12 +140,12 @@ def rerun_of(suites):
     return compact({"parent-run-id": PARENT_ID, "root-info": root, "test-suites": named})
 
 
-def begun(name, binary="a"):
+def begun(name: str, binary: str = "a") -> Line:
     """A test of a binary starts."""
     return Line(1001, test_started(test(name, binary)), more=1)
 
 
-def ended(name, *results, counts_as="pass"):
+def ended(name: str, *results: object, counts_as: str = "pass") -> Line:
     """It ends after attempts that ended so, and counts as this where it is flaky."""
     attempts = [
         attempt(NO_OUTPUT, result, number, len(results)) for number, result in enumerate(results, 1)
@@ -132,7 +155,7 @@ def ended(name, *results, counts_as="pass"):
     )
 
 
-def begun_again(name):
+def begun_again(name: str) -> Line:
     """It starts again."""
     return Line(1001, retry_started(test(name, "a"), slot(), attempt_of(1, 2)), more=1)
 
@@ -165,16 +188,18 @@ STANDINGS = (
     ([begun("t"), ended("t", "pass", "exec-fail")], False),
 )
 
-# Events of tests of a binary after a rerun in which `x` passed and `y` may not have, and the tests that are outstanding and that have
-# passed by both.
-AFTER_X_PASSED = (
+# Events of tests of a binary after a rerun in which `x` passed and `y` may not have, and the tests
+# that are outstanding and that have passed by both.
+AFTER_X_PASSED: tuple[tuple[str, list[Line], list[str], tuple[list[str], list[str]]], ...] = (
     ("y starts and passes", [begun("y"), ended("y", "pass")], ["y"], ([], ["x", "y"])),
     ("x ends without a start", [ended("x", "exec-fail")], [], ([], ["x"])),
     ("x starts and fails", [begun("x"), ended("x", "exec-fail")], [], (["x"], [])),
 )
 
 
-def reran(name, events, outstanding, suite):
+def reran(
+    name: str, events: Sequence[Line], outstanding: list[str], suite: tuple[list[str], list[str]]
+) -> Case:
     gone = "".join(f"gone a {test}\n" for test in suite[0])
     return asked(
         f"of a parent after which {name}",
@@ -184,14 +209,14 @@ def reran(name, events, outstanding, suite):
     )
 
 
-def standing(number, events, passed):
-    suites = [("a", [], ["t"])] if passed else [("a", ["t"], [])]
+def standing(number: int, events: Sequence[Line], passed: bool) -> Case:
+    suite: Suite = ("a", [], ["t"]) if passed else ("a", ["t"], [])
     plan = "skip a t\n" if passed else "run a t\n"
     return asked(
         f"of one test, {number}",
         traced_log(events),
         stored(tests=b'{"suites":{"a":["t"]}}'),
-        selection(suites) + plan,
+        selection([suite]) + plan,
     )
 
 

@@ -1,23 +1,28 @@
-"""Values of runs in events, as they are read and as they are logged: progress, statistics, and how a run ended."""
+"""Values of runs in events, as they are read and as they are logged: progress, statistics, and how
+a run ended.
+"""
 
-from workshop.cases.line_cases import REFUSED, in_event, read_of_session
-from workshop.cases.made import COUNTS, NO_COUNTS
+from __future__ import annotations
+
+from workshop.cases.events import COUNTS, NO_COUNTS
+from workshop.cases.line_cases import REFUSED, Row, in_event, read_of_session
 
 # Lines as they are logged, with VALUE for what is tried.
 PROGRESS = (
-    '{"elapsed":{"nanos":0,"secs":0},"kind":"stress-sub-run-started","progress":VALUE,"timestamp":{"nanos":0,"offset":0,'
-    '"secs":1000}}'
+    '{"elapsed":{"nanos":0,"secs":0},"kind":"stress-sub-run-started","progress":VALUE,'
+    '"timestamp":{"nanos":0,"offset":0,"secs":1000}}'
 )
 
 SUB_STATS = (
-    '{"elapsed":{"nanos":0,"secs":0},"kind":"stress-sub-run-finished","progress":{"count":{"completed":1,"elapsed":{"nanos":0,'
-    '"secs":0}}},"sub-elapsed":{"nanos":0,"secs":1},"sub-stats":VALUE,"timestamp":{"nanos":0,"offset":0,"secs":1000}}'
+    '{"elapsed":{"nanos":0,"secs":0},"kind":"stress-sub-run-finished",'
+    '"progress":{"count":{"completed":1,"elapsed":{"nanos":0,"secs":0}}},"sub-elapsed":{"nanos":0,'
+    '"secs":1},"sub-stats":VALUE,"timestamp":{"nanos":0,"offset":0,"secs":1000}}'
 )
 
 RUN_STATS = (
     '{"elapsed":{"nanos":0,"secs":0},"kind":"run-finished","run-elapsed":{"nanos":0,"secs":9},'
-    '"run-id":"550e8400-e29b-41d4-a716-446655440000","run-stats":VALUE,"start-time":{"nanos":0,"offset":0,"secs":1000},'
-    '"timestamp":{"nanos":0,"offset":0,"secs":1000}}'
+    '"run-id":"550e8400-e29b-41d4-a716-446655440000","run-stats":VALUE,"start-time":{"nanos":0,'
+    '"offset":0,"secs":1000},"timestamp":{"nanos":0,"offset":0,"secs":1000}}'
 )
 STRESS_RUN_STATS = RUN_STATS.replace("VALUE", '{"stress":VALUE}')
 LAST_STATS = STRESS_RUN_STATS.replace(
@@ -56,14 +61,20 @@ TABLES = [
                 '{"count":{"completed":0,"elapsed":{"nanos":0,"secs":0}}}',
             ),
             (
-                '{"count":{"completed":7,"elapsed":{"nanos":999999999,"secs":18446744073709551615},"total":4294967295}}',
-                '{"count":{"completed":7,"elapsed":{"nanos":999999999,"secs":18446744073709551615},"total":4294967295}}',
+                (
+                    '{"count":{"completed":7,"elapsed":{"nanos":999999999,'
+                    '"secs":18446744073709551615},"total":4294967295}}'
+                ),
+                (
+                    '{"count":{"completed":7,"elapsed":{"nanos":999999999,'
+                    '"secs":18446744073709551615},"total":4294967295}}'
+                ),
             ),
             (
-                '{"time":{"completed":4294967295,"elapsed":{"nanos":0,"secs":0},"total":{"nanos":999999999,'
-                '"secs":18446744073709551615}}}',
-                '{"time":{"completed":4294967295,"elapsed":{"nanos":0,"secs":0},"total":{"nanos":999999999,'
-                '"secs":18446744073709551615}}}',
+                '{"time":{"completed":4294967295,"elapsed":{"nanos":0,"secs":0},'
+                '"total":{"nanos":999999999,"secs":18446744073709551615}}}',
+                '{"time":{"completed":4294967295,"elapsed":{"nanos":0,"secs":0},'
+                '"total":{"nanos":999999999,"secs":18446744073709551615}}}',
             ),
             (
                 '{"count":{"total":null,"elapsed":{"secs":1,"nanos":2},"completed":3,"x":0}}',
@@ -91,8 +102,14 @@ TABLES = [
             ('{"count":{"total":-1,"elapsed":{"secs":1,"nanos":2},"completed":3}}', REFUSED),
             ('{"count":{"elapsed":{"secs":1,"nanos":1000000000},"completed":3}}', REFUSED),
             (
-                '{"time":{"total":{"secs":5,"nanos":6},"elapsed":{"secs":1,"nanos":2},"completed":3,"x":[]}}',
-                '{"time":{"completed":3,"elapsed":{"nanos":2,"secs":1},"total":{"nanos":6,"secs":5}}}',
+                (
+                    '{"time":{"total":{"secs":5,"nanos":6},"elapsed":{"secs":1,"nanos":2},'
+                    '"completed":3,"x":[]}}'
+                ),
+                (
+                    '{"time":{"completed":3,"elapsed":{"nanos":2,"secs":1},"total":{"nanos":6,'
+                    '"secs":5}}}'
+                ),
             ),
             ('{"time":{"elapsed":{"secs":1,"nanos":2},"completed":3}}', REFUSED),
             ('{"time":{"total":null,"elapsed":{"secs":1,"nanos":2},"completed":3}}', REFUSED),
@@ -100,16 +117,25 @@ TABLES = [
             ('{"time":{"total":{"secs":5,"nanos":6},"completed":3}}', REFUSED),
             ('{"time":{"total":{"secs":5,"nanos":6},"elapsed":{"secs":1,"nanos":2}}}', REFUSED),
             (
-                '{"time":{"total":{"secs":5,"nanos":6},"elapsed":{"secs":1,"nanos":2},"completed":-1}}',
+                (
+                    '{"time":{"total":{"secs":5,"nanos":6},"elapsed":{"secs":1,"nanos":2},'
+                    '"completed":-1}}'
+                ),
                 REFUSED,
             ),
             (
-                '{"time":{"total":{"secs":5.5,"nanos":6},"elapsed":{"secs":1,"nanos":2},"completed":3}}',
+                (
+                    '{"time":{"total":{"secs":5.5,"nanos":6},"elapsed":{"secs":1,"nanos":2},'
+                    '"completed":3}}'
+                ),
                 REFUSED,
             ),
             ('{"Count":{"elapsed":{"secs":1,"nanos":2},"completed":3}}', REFUSED),
             (
-                '{"duration":{"total":{"secs":5,"nanos":6},"elapsed":{"secs":1,"nanos":2},"completed":3}}',
+                (
+                    '{"duration":{"total":{"secs":5,"nanos":6},"elapsed":{"secs":1,"nanos":2},'
+                    '"completed":3}}'
+                ),
                 REFUSED,
             ),
             ('{"count":{"elapsed":{"secs":1,"nanos":2},"completed":3},"x":0}', REFUSED),
@@ -147,9 +173,12 @@ TABLES = [
         STRESS_RUN_STATS,
         [
             (
-                '{"success-count":0,"failed-count":0,"last-final-stats":"no-tests-run","completed":{"current":0,'
-                '"total":null},"x":0}',
-                '{"completed":{"current":0},"failed-count":0,"last-final-stats":"no-tests-run","success-count":0}',
+                '{"success-count":0,"failed-count":0,"last-final-stats":"no-tests-run",'
+                '"completed":{"current":0,"total":null},"x":0}',
+                (
+                    '{"completed":{"current":0},"failed-count":0,'
+                    '"last-final-stats":"no-tests-run","success-count":0}'
+                ),
             ),
             (
                 '{"completed":{"current":4294967294,"total":4294967295},"success-count":4294967295,'
@@ -167,11 +196,17 @@ TABLES = [
                 REFUSED,
             ),
             (
-                '{"completed":{"total":2},"success-count":0,"failed-count":0,"last-final-stats":"failed"}',
+                (
+                    '{"completed":{"total":2},"success-count":0,"failed-count":0,'
+                    '"last-final-stats":"failed"}'
+                ),
                 REFUSED,
             ),
             (
-                '{"completed":{"current":0,"total":0},"success-count":0,"failed-count":0,"last-final-stats":"failed"}',
+                (
+                    '{"completed":{"current":0,"total":0},"success-count":0,"failed-count":0,'
+                    '"last-final-stats":"failed"}'
+                ),
                 REFUSED,
             ),
             ('[{"current":2},1,2,"failed"]', REFUSED),
@@ -185,31 +220,43 @@ TABLES = [
         RUN_STATS,
         [
             (
-                '{"stress":{"completed":{"current":2,"total":3},"failed-count":4,"last-final-stats":"no-tests-run",'
-                '"success-count":1}}',
-                '{"stress":{"completed":{"current":2,"total":3},"failed-count":4,"last-final-stats":"no-tests-run",'
-                '"success-count":1}}',
+                '{"stress":{"completed":{"current":2,"total":3},"failed-count":4,'
+                '"last-final-stats":"no-tests-run","success-count":1}}',
+                '{"stress":{"completed":{"current":2,"total":3},"failed-count":4,'
+                '"last-final-stats":"no-tests-run","success-count":1}}',
             ),
             (
-                '{"stress":{"success-count":1,"failed-count":2,"last-final-stats":"cancelled","completed":{"current":2,'
-                '"total":3}}}',
-                '{"stress":{"completed":{"current":2,"total":3},"failed-count":2,"last-final-stats":"cancelled",'
-                '"success-count":1}}',
+                '{"stress":{"success-count":1,"failed-count":2,"last-final-stats":"cancelled",'
+                '"completed":{"current":2,"total":3}}}',
+                '{"stress":{"completed":{"current":2,"total":3},"failed-count":2,'
+                '"last-final-stats":"cancelled","success-count":1}}',
             ),
             (
-                '{"Stress":{"completed":{"current":2},"success-count":1,"failed-count":2,"last-final-stats":"failed"}}',
+                (
+                    '{"Stress":{"completed":{"current":2},"success-count":1,"failed-count":2,'
+                    '"last-final-stats":"failed"}}'
+                ),
                 REFUSED,
             ),
             (
-                '{"single":{"completed":{"current":2},"success-count":1,"failed-count":2,"last-final-stats":"failed"}}',
+                (
+                    '{"single":{"completed":{"current":2},"success-count":1,"failed-count":2,'
+                    '"last-final-stats":"failed"}}'
+                ),
                 REFUSED,
             ),
             (
-                '{"stress":{"completed":{"current":2},"success-count":1,"failed-count":2,"last-final-stats":"failed"},"x":0}',
+                (
+                    '{"stress":{"completed":{"current":2},"success-count":1,"failed-count":2,'
+                    '"last-final-stats":"failed"},"x":0}'
+                ),
                 REFUSED,
             ),
             (
-                '{"completed":{"current":2},"success-count":1,"failed-count":2,"last-final-stats":"failed"}',
+                (
+                    '{"completed":{"current":2},"success-count":1,"failed-count":2,'
+                    '"last-final-stats":"failed"}'
+                ),
                 REFUSED,
             ),
             ('{"single":{}}', REFUSED),
@@ -226,8 +273,8 @@ TABLES = [
         [
             ('{"total-not-seen":0,"not-seen":[],"x":null}', '{"not-seen":[],"total-not-seen":0}'),
             (
-                '{"total-not-seen":18446744073709551615,"not-seen":[{"test-name":"t","binary-id":"b"},{"binary-id":"a",'
-                '"test-name":""}]}',
+                '{"total-not-seen":18446744073709551615,"not-seen":[{"test-name":"t",'
+                '"binary-id":"b"},{"binary-id":"a","test-name":""}]}',
                 '{"not-seen":[{"binary-id":"b","test-name":"t"},{"binary-id":"a","test-name":""}],'
                 '"total-not-seen":18446744073709551615}',
             ),
@@ -251,16 +298,16 @@ TABLES = [
 ]
 
 
-def counts(first, last):
+def counts(first: str, last: str) -> str:
     """The statistics of a run with these members before and after their counts."""
     return "{" + first + COUNTED + last + "}"
 
 
-def single(first, last):
+def single(first: str, last: str) -> str:
     return '{"single":' + counts(first, last) + "}"
 
 
-def counts_without(key, *members):
+def counts_without(key: str, *members: str) -> str:
     """All counts but this one, and then these members."""
     others = [f'"{other}":1' for other in COUNTS if other != key]
     return ",".join(['{"cancel-reason":"signal"', *others, *members]) + "}"
@@ -271,7 +318,7 @@ INTERRUPTED = '"cancel-reason":"interrupt",'
 SIGNALLED = '"cancel-reason":"signal",'
 NO_REASON = '"cancel-reason":null,'
 
-STATISTICS = [
+STATISTICS: list[Row] = [
     (counts("", MOST_SKIPPED), counts("", MOST_SKIPPED)),
     (counts(INTERRUPTED, MOST_SKIPPED), counts(INTERRUPTED, MOST_SKIPPED)),
     (counts(NO_REASON, MOST_SKIPPED), counts("", MOST_SKIPPED)),
@@ -299,7 +346,7 @@ WHOLE_STRESS_END = (
     '{"completed":{"current":2},"success-count":1,"failed-count":2,"last-final-stats":"failed"}'
 )
 
-EACH_COUNT = [
+EACH_COUNT: list[Row] = [
     (counts_without(key, *members), REFUSED)
     for key in COUNTS
     for members in [(), (f'"{key}":null',), (f'"{key}":-1',), (f'"{key}":"1"',)]

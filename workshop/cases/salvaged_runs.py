@@ -1,9 +1,16 @@
-"""Runs that were stopped: what is salvaged of the bundle that holds one, and why nothing is of others."""
+"""Runs that were stopped: what is salvaged of the bundle that holds one, and why nothing is of
+others.
+"""
+
+from __future__ import annotations
 
 import hashlib
+from typing import NamedTuple
 
-from workshop.cases.case import Case, Recorded
-from workshop.cases.made import bundle, log as log_with, script_ended
+from rezovamy_runs.bundles.container import container
+from workshop.cases.case import Case, Entry, Recorded, Wanted, Words
+from workshop.cases.events import script_ended, script_members
+from workshop.cases.made import Members, bundle, log as log_with
 from workshop.cases.recorded_bundles import ONE_TEST_RECORDED
 from workshop.cases.texts import HEAD, LOGGED_PAUSE, METADATA, RUN_PAUSED, SMALL_SESSION, replaced
 from workshop.cases.whole_bundles import (
@@ -18,24 +25,25 @@ from workshop.cases.whole_bundles import (
     whole,
     wrote,
 )
-from rezovamy_runs.bundles.container import container
 
 STORE = container(METADATA)
 WHOLE_STORE = container([*METADATA, *OUTPUTS])
 LINES = TWO_SLOTS_LOG.splitlines(keepends=True)
 
 
-def counts(events, outputs):
+def counts(events: int, outputs: int) -> bytes:
     return f"events={events} outputs={outputs}\n".encode()
 
 
-def salvaged(name, given, events, outputs, written):
+def salvaged(
+    name: str, given: bytes | Recorded, events: int, outputs: int, written: Wanted
+) -> Case:
     return Case(
         f"salvage {name}", ("salvage", "b"), given, out=counts(events, outputs), file=written
     )
 
 
-def refused(name, given, status, line, options=()):
+def refused(name: str, given: bytes, status: int, line: str, options: Words = ()) -> Case:
     return Case(
         f"salvage {name}",
         ("salvage", "b", *options),
@@ -49,8 +57,10 @@ def refused(name, given, status, line, options=()):
 CUTS = range(len(TWO_SLOTS_LOG) + 1)
 
 
-def cut(at):
-    """What is salvaged of the log up to this byte, and the whole store: the lines that are whole, and the outputs that they name."""
+def cut(at: int) -> Case:
+    """What is salvaged of the log up to this byte, and the whole store: the lines that are whole,
+    and the outputs that they name.
+    """
     kept = TWO_SLOTS_LOG[: TWO_SLOTS_LOG[:at].rfind(b"\n") + 1]
     named = [output for output in OUTPUTS if output[0].removeprefix(b"out/") in kept]
     return salvaged(
@@ -86,19 +96,15 @@ KEPT_LINES = {
     "one line that is whole but for its LF": (RUN_PAUSED, b"", 0),
 }
 
-# White space with a no-break space, a line with blanks around it, and the same white space. `sizes` counts three lines in it.
+# White space with a no-break space, a line with blanks around it, and the same white space. `sizes`
+# counts three lines in it.
 SPACED = b" \t\xc2\xa0\n \t" + RUN_PAUSED + b"\r\n \t\xc2\xa0\n"
 ONE_EVENT = replaced(whole(SPACED), b'"entries":3', b'"entries":1')
 
-# A script that wrote the first output, and the same of an output that no store has. How many lines of a log of both are kept, and
-# how many outputs.
-SCRIPT = log_with(
-    [
-        script_ended(
-            {**wrote(FIRST, "pass"), "env-map": {"DB_URL": "db:1"}}, program="./db.sh", args=["up"]
-        )
-    ]
-)
+# A script that wrote the first output, and the same of an output that no store has. How many lines
+# of a log of both are kept, and how many outputs.
+RAN: Members = {**wrote(FIRST, "pass"), "env-map": {"DB_URL": "db:1"}}
+SCRIPT = log_with([script_ended(RAN, script_members(program="./db.sh", args=["up"]))])
 OUTPUT_MISSING = SCRIPT.replace(b"ba7816bf8f01cfea", b"486ea46224d1bb4f")
 KEPT_SCRIPTS = {
     "a pause and a script, before a line without its LF": ([LOGGED_PAUSE, SCRIPT, RUN_PAUSED], 2),
@@ -106,11 +112,13 @@ KEPT_SCRIPTS = {
     "two scripts before a line that is no event": ([SCRIPT, SCRIPT, b"{}\n", LOGGED_PAUSE], 2),
 }
 
-# Stores over a log that names both outputs, with the metadata in its order, and how many outputs are kept of each.
+# Stores over a log that names both outputs, with the metadata in its order, and how many outputs
+# are kept of each.
 RERUN = (
     b"meta/rerun-info.json",
-    b'{"test-suites":[],"parent-run-id":"650e8400-e29b-41d4-a716-446655440000","root-info":{"run-id":'
-    b'"750e8400-e29b-41d4-a716-446655440000","build-scope":{"build-kind":"cargo","scope":{}}}}',
+    b'{"test-suites":[],"parent-run-id":"650e8400-e29b-41d4-a716-446655440000",'
+    b'"root-info":{"run-id":"750e8400-e29b-41d4-a716-446655440000",'
+    b'"build-scope":{"build-kind":"cargo","scope":{}}}}',
 )
 OTHER = (b"out/" + hashlib.sha256(b"other").hexdigest()[:16].encode() + b"-stderr", b"other")
 KEPT_ENTRIES = {
@@ -131,23 +139,23 @@ KEPT_ENTRIES = {
 }
 
 
-def repeated():
+def repeated() -> bytes:
     """A store in which a name is repeated before the second output."""
     return container([*METADATA, FIRST, METADATA[0], SECOND])
 
 
-def lacking(name):
+def lacking(name: bytes) -> list[Entry]:
     """The metadata without the entry of this name."""
     return [(entry, content) for entry, content in METADATA if entry != name]
 
 
-def other(name, content):
+def other(name: bytes, content: bytes) -> list[Entry]:
     """The metadata with other bytes in the entry of this name."""
     return [(entry, content if entry == name else kept) for entry, kept in METADATA]
 
 
-# The metadata in the order in which it is judged; cargo's need not be JSON. What a store has of it: the entry (o), bytes that are no
-# text (x) or nothing (-), and the line of each such store.
+# The metadata in the order in which it is judged; cargo's need not be JSON. What a store has of it:
+# the entry (o), bytes that are no text (x) or nothing (-), and the line of each such store.
 PARTS = [METADATA[0], RERUN, METADATA[1], (METADATA[2][0], b"no JSON"), METADATA[3]]
 JUDGED = {
     "-x-x-": "MissingMeta file_name=meta/build-scope.json",
@@ -162,7 +170,7 @@ JUDGED = {
 }
 
 
-def with_parts(marks):
+def with_parts(marks: str) -> bytes:
     """A store with these parts of the metadata, the last of them first."""
     parts = [
         (name, content if mark == "o" else b"\xff")
@@ -172,30 +180,41 @@ def with_parts(marks):
     return container(sorted(parts, key=lambda part: part[0] != PARTS[4][0]))
 
 
-# Stores of which nothing is salvaged, and the line of each.
+class Store(NamedTuple):
+    """What a store is called, the store, and the line for which nothing is salvaged of it."""
+
+    name: str
+    store: bytes
+    line: str
+
+
 REFUSED = [
-    *[(f"the metadata {marks}", with_parts(marks), line) for marks, line in JUDGED.items()],
-    ("a store of another version", b"nxtcont2", "BadMagic"),
-    ("a store of no bytes", b"", "BadMagic"),
-    ("a store that is cut within the magic", b"nxtcont", "BadMagic"),
-    ("a store of another kind", b"PK\3\4____", "BadMagic"),
-    ("the magic alone", b"nxtcont1", "MissingMeta file_name=meta/build-scope.json"),
-    (
+    *[Store(f"the metadata {marks}", with_parts(marks), line) for marks, line in JUDGED.items()],
+    Store("a store of another version", b"nxtcont2", "BadMagic"),
+    Store("a store of no bytes", b"", "BadMagic"),
+    Store("a store that is cut within the magic", b"nxtcont", "BadMagic"),
+    Store("a store of another kind", b"PK\3\4____", "BadMagic"),
+    Store("the magic alone", b"nxtcont1", "MissingMeta file_name=meta/build-scope.json"),
+    Store(
         "a store that is cut within the build scope",
         STORE[:100],
         "MissingMeta file_name=meta/build-scope.json",
     ),
-    (
+    Store(
         "a store that is cut within the record options",
         STORE[:-2],
         "MissingMeta file_name=meta/record-opts.json",
     ),
     *[
-        (f"no {name.decode()}", container(lacking(name)), f"MissingMeta file_name={name.decode()}")
+        Store(
+            f"no {name.decode()}",
+            container(lacking(name)),
+            f"MissingMeta file_name={name.decode()}",
+        )
         for name, _ in METADATA
     ],
     *[
-        (
+        Store(
             f"a {name.decode()} that is none",
             container(other(name, content)),
             f"BadMeta file_name={name.decode()}",
@@ -207,22 +226,22 @@ REFUSED = [
             (b"meta/record-opts.json", b"{"),
         ]
     ],
-    (
+    Store(
         "rerun info that is none",
         container([*METADATA, (b"meta/rerun-info.json", b"{}")]),
         "BadMeta file_name=meta/rerun-info.json",
     ),
-    (
+    Store(
         "a build scope that is none, and no test list",
         container([(METADATA[0][0], b"[]"), *METADATA[2:]]),
         "BadMeta file_name=meta/build-scope.json",
     ),
-    (
+    Store(
         "rerun info that is none, and no test list",
         container([METADATA[0], *METADATA[2:], (b"meta/rerun-info.json", b"")]),
         "BadMeta file_name=meta/rerun-info.json",
     ),
-    (
+    Store(
         "no test list, and record options that are none",
         container([METADATA[0], METADATA[2], (METADATA[3][0], b"")]),
         "MissingMeta file_name=meta/test-list.json",

@@ -1,56 +1,66 @@
 """Generated sessions: their bundles, and what is printed of them."""
 
+from __future__ import annotations
+
 import hashlib
 import re
+from collections.abc import Iterator, Sequence
 
-from workshop.cases.case import SOME, Case, Holds, Recorded, Sampled, begins, both, ends
-from workshop.cases.made import OPTIONS, bundle, compact, sorted_stats
-from workshop.cases.texts import BUILD_SCOPE, LOGGED_RUN_START, MANIFEST, NO_SIZES, replaced
 from rezovamy_runs.bundles.container import container
+from workshop.cases.case import SOME, Case, Entry, Holds, Recorded, Sampled, begins, both, ends
+from workshop.cases.events import sorted_stats
+from workshop.cases.made import OPTIONS, bundle, compact
+from workshop.cases.texts import BUILD_SCOPE, LOGGED_RUN_START, MANIFEST, NO_SIZES, replaced
 
 # The head up to the suites of its test list.
 SAMPLE_HEAD = (
     b'{"build-scope":'
     + BUILD_SCOPE
-    + b',"cargo-metadata":"{}","cli-args":[],"env-vars":{},"last-written-at":{"nanos":0,'
-    b'"offset":0,"secs":1011},"nextest-version":"0.9.111","record-opts":{"run-mode":"test"},"run-id":'
-    b'"550e8400-e29b-41d4-a716-446655440000","started-at":{"nanos":0,"offset":0,"secs":1000},"status":{"status":"incomplete"},'
-    b'"test-list":{"suites":'
+    + (
+        b',"cargo-metadata":"{}","cli-args":[],"env-vars":{},"last-written-at":{"nanos":0,'
+        b'"offset":0,"secs":1011},"nextest-version":"0.9.111","record-opts":{"run-mode":"test"},'
+        b'"run-id":"550e8400-e29b-41d4-a716-446655440000","started-at":{"nanos":0,"offset":0,'
+        b'"secs":1000},"status":{"status":"incomplete"},"test-list":{"suites":'
+    )
 )
 
 
-def stats(tests):
+def stats(tests: int) -> bytes:
     """The counts of a run of so many tests."""
     return compact(sorted_stats(initial_run_count=tests))
 
 
-def run_end(tests, secs):
+def run_end(tests: int, secs: int) -> bytes:
     """The end of a run of so many tests, at so many seconds."""
     return (
-        b'{"elapsed":{"nanos":0,"secs":0},"kind":"run-finished","run-elapsed":{"nanos":0,"secs":0},"run-id":'
-        b'"550e8400-e29b-41d4-a716-446655440000","run-stats":{"single":%s},"start-time":{"nanos":0,"offset":0,"secs":1000},'
-        b'"timestamp":{"nanos":0,"offset":0,"secs":%d}}\n' % (stats(tests), secs)
+        b'{"elapsed":{"nanos":0,"secs":0},"kind":"run-finished","run-elapsed":{"nanos":0,"secs":0},'
+        b'"run-id":"550e8400-e29b-41d4-a716-446655440000","run-stats":{"single":%s},'
+        b'"start-time":{"nanos":0,"offset":0,"secs":1000},"timestamp":{"nanos":0,"offset":0,'
+        b'"secs":%d}}\n' % (stats(tests), secs)
     )
 
 
 # The start of the only test.
 TEST_START = (
-    b'{"command-line":[],"current-stats":%s,"elapsed":{"nanos":0,"secs":0},"kind":"test-started","running":1,"slot-assignment":'
-    b'{"global-slot":0,"test-group":"@global"},"test-instance":{"binary-id":"bin-0","test-name":"t0"},"timestamp":{"nanos":0,'
-    b'"offset":0,"secs":1000}}\n' % stats(1)
+    b'{"command-line":[],"current-stats":%s,"elapsed":{"nanos":0,"secs":0},"kind":"test-started",'
+    b'"running":1,"slot-assignment":{"global-slot":0,"test-group":"@global"},'
+    b'"test-instance":{"binary-id":"bin-0","test-name":"t0"},"timestamp":{"nanos":0,"offset":0,'
+    b'"secs":1000}}\n' % stats(1)
 )
 
 
-def test_end(stdout):
+def test_end(stdout: bytes) -> bytes:
     """Its end. It wrote `output 0` and LF, which is held so."""
     return (
-        b'{"current-stats":%s,"elapsed":{"nanos":0,"secs":0},"failure-output":"never","junit-flaky-fail-status":"failure",'
-        b'"junit-store-failure-output":false,"junit-store-success-output":false,"kind":"test-finished","run-statuses":'
-        b'{"flaky-result":"pass","statuses":[{"delay-before-start":{"nanos":0,"secs":0},"is-slow":false,"output":{"output":'
-        b'{"output":{"split":{"stdout":%s}}}},"result":"pass","retry-data":{"attempt":1,"total-attempts":1},"start-time":'
-        b'{"nanos":0,"offset":0,"secs":1000},"time-taken":{"nanos":0,"secs":3}}]},"running":0,"success-output":"never",'
-        b'"test-instance":{"binary-id":"bin-0","test-name":"t0"},"timestamp":{"nanos":0,"offset":0,"secs":1003}}\n'
-        % (stats(1), stdout)
+        b'{"current-stats":%s,"elapsed":{"nanos":0,"secs":0},"failure-output":"never",'
+        b'"junit-flaky-fail-status":"failure","junit-store-failure-output":false,'
+        b'"junit-store-success-output":false,"kind":"test-finished",'
+        b'"run-statuses":{"flaky-result":"pass","statuses":[{"delay-before-start":{"nanos":0,'
+        b'"secs":0},"is-slow":false,"output":{"output":{"output":{"split":{"stdout":%s}}}},'
+        b'"result":"pass","retry-data":{"attempt":1,"total-attempts":1},"start-time":{"nanos":0,'
+        b'"offset":0,"secs":1000},"time-taken":{"nanos":0,"secs":3}}]},"running":0,'
+        b'"success-output":"never","test-instance":{"binary-id":"bin-0","test-name":"t0"},'
+        b'"timestamp":{"nanos":0,"offset":0,"secs":1003}}\n' % (stats(1), stdout)
     )
 
 
@@ -67,7 +77,7 @@ OUTPUT = b"output 0\n"
 OUTPUT_NAME = hashlib.sha256(OUTPUT).hexdigest()[:16].encode() + b"-stdout"
 
 
-def bundle_of(log, events, suites, outputs):
+def bundle_of(log: bytes, events: int, suites: bytes, outputs: Sequence[Entry]) -> bytes:
     """The bundle of a log of so many events, of these suites and outputs."""
     contents = [
         (b"meta/build-scope.json", BUILD_SCOPE),
@@ -78,8 +88,8 @@ def bundle_of(log, events, suites, outputs):
     ]
     store = container(contents)
     sizes = (
-        b'"sizes":{"log":{"compressed":%d,"entries":%d,"uncompressed":%d},"store":{"compressed":%d,"entries":%d,'
-        b'"uncompressed":%d}}'
+        b'"sizes":{"log":{"compressed":%d,"entries":%d,"uncompressed":%d},"store":{"compressed":%d,'
+        b'"entries":%d,"uncompressed":%d}}'
         % (
             len(log),
             events,
@@ -99,7 +109,7 @@ LOG_OF_ONE = (
 BUNDLE_OF_ONE = bundle_of(LOG_OF_ONE, 4, b'{"bin-0":["t0"]}', [(b"out/" + OUTPUT_NAME, OUTPUT)])
 
 
-def within(name, tests, session, counts, file):
+def within(name: str, tests: str, session: bytes, counts: bytes, file: bytes) -> Iterator[Case]:
     """A session that is just short enough for a limit, and one that is a byte too long."""
     yield Case(
         name, ("sample", tests, "b", "--session-limit", str(len(session))), out=counts, file=file
@@ -124,15 +134,15 @@ header 550e8400-e29b-41d4-a716-446655440000 incomplete
 ONE_WITHOUT_OUTPUTS = replaced(ONE_REPLAYED, b"stdout=9 stderr=-", b"not-loaded")
 
 
-def case(test):
+def case(test: int) -> bytes:
     """The case of this test among eight, each on a slot of its own."""
     return (
-        b'{"classname":"bin-%d","name":"t%d","status":{"success":[]},"time":{"nanos":0,"secs":3},"timestamp":{"nanos":%d,'
-        b'"offset":0,"secs":1000}}' % (test % 4, test, test * 1000)
+        b'{"classname":"bin-%d","name":"t%d","status":{"success":[]},"time":{"nanos":0,"secs":3},'
+        b'"timestamp":{"nanos":%d,"offset":0,"secs":1000}}' % (test % 4, test, test * 1000)
     )
 
 
-def suite(binary):
+def suite(binary: int) -> bytes:
     """The suite of two tests of this binary."""
     return b'{"cases":[%s,%s],"name":"bin-%d","properties":[]}' % (
         case(binary),
@@ -142,15 +152,18 @@ def suite(binary):
 
 
 EIGHT_REPORTED = (
-    b'{"name":"nextest-run","run-id":"550e8400-e29b-41d4-a716-446655440000","suites":[%s,%s,%s,%s],"time":{"nanos":0,"secs":0},'
-    b'"timestamp":{"nanos":0,"offset":0,"secs":1000}}\n' % (suite(0), suite(1), suite(2), suite(3))
+    b'{"name":"nextest-run","run-id":"550e8400-e29b-41d4-a716-446655440000","suites":[%s,%s,%s,%s],'
+    b'"time":{"nanos":0,"secs":0},"timestamp":{"nanos":0,"offset":0,"secs":1000}}\n'
+    % (suite(0), suite(1), suite(2), suite(3))
 )
 
 
-def named(*names):
-    """A line of JSON with these names, in this order: in an object the cases of a suite stand before its name."""
+def named(*names: bytes) -> Holds:
+    """A line of JSON with these names, in this order: in an object the cases of a suite stand
+    before its name.
+    """
 
-    def test(data):
+    def test(data: bytes) -> bool:
         return (
             data.count(b"\n") == 1
             and data.endswith(b"\n")

@@ -1,6 +1,12 @@
-"""The lines of sessions and logs: a head, blank lines and events, and which fault of a line is answered."""
+"""The lines of sessions and logs: a head, blank lines and events, and which fault of a line is
+answered.
+"""
 
-from workshop.cases.case import SOME, Case
+from __future__ import annotations
+
+from collections.abc import Iterator
+
+from workshop.cases.case import SOME, Case, Wanted
 from workshop.cases.hostile import BUNDLE, SESSION
 from workshop.cases.made import logged_bundle, session
 from workshop.cases.texts import (
@@ -14,7 +20,8 @@ from workshop.cases.texts import (
     session_of,
 )
 
-# What stands before the head, what stands after it, and the line that refuses it, none where it is recorded.
+# What stands before the head, what stands after it, and the line that refuses it, none where it is
+# recorded.
 AROUND_HEAD = [
     (b"", b"\n", b""),
     (b" \t", b"\r\n", b""),
@@ -32,7 +39,8 @@ AROUND_HEAD = [
     (b"", b"\n\n \xc2\n", b"ReadRunLog line_number=3\n"),
 ]
 
-# The line between a blank one and a second start of the run, the status and the line that refuses the session.
+# The line between a blank one and a second start of the run, the status and the line that refuses
+# the session.
 BEFORE_SECOND_START = [
     (b'{"kind":"run-started"}', 5, b"ParseEvent line_number=4\n"),
     (b"{}", 5, b"ParseEvent line_number=4\n"),
@@ -55,8 +63,8 @@ FOURTH_LINES = [
 ]
 
 # Texts, the fault of their first line that has one, and its number.
-TEXTS = [
-    (b"\n \n\t\r\n", None, None),
+TEXTS: list[tuple[bytes, bytes | None, int]] = [
+    (b"\n \n\t\r\n", None, 0),
     (b"\xc3\n", b"ReadRunLog", 1),
     (b"\n[]", b"ParseEvent", 2),
     (b"{\n}", b"ParseEvent", 1),
@@ -76,22 +84,25 @@ MIXED = [
     b" ",
 ]
 
-MIXED_TEXTS = [
+MIXED_TEXTS: list[tuple[bytes, bytes | None, int]] = [
     (b"\n".join(MIXED), b"ReadRunLog", 5),
     (b"\n".join(MIXED[:4] + MIXED[6:]), b"ParseEvent", 5),
     (b"\n".join([RUN_STARTED, b"", b"\xff", b"{}"]), b"ReadRunLog", 3),
     (b"\n".join([RUN_STARTED, b"", b"", b"{}"]), b"ParseEvent", 4),
 ]
 
-# More lines than one block of a session has, which is 1 MiB and the rest of a line: each is a byte, or some thousands.
+# More lines than one block of a session has, which is 1 MiB and the rest of a line: each is a byte,
+# or some thousands.
 MANY_BLANKS = [(b"\n", 3_000_000), (b" " * 4999 + b"\n", 700)]
 
 
-def around_head(before, after, line):
+def around_head(before: bytes, after: bytes, line: bytes) -> Case:
     """A case of a head between these bytes."""
-    status, out, file = (5, b"", None) if line else (0, SOME, SOME)
+    status = 5 if line else 0
+    out: Wanted = b"" if line else SOME
+    file = None if line else SOME
     return Case(
-        f"head between {before} and {after}",
+        f"head between {before!r} and {after!r}",
         ("record", "b"),
         before + HEAD + after,
         status,
@@ -101,7 +112,7 @@ def around_head(before, after, line):
     )
 
 
-def of_log(name, log, fault):
+def of_log(name: str, log: bytes, fault: bytes | None) -> Case:
     """The log is traced where it has no fault."""
     if fault is None:
         return Case(f"{name}, of a log", ("trace",), logged_bundle(log), out=SOME)
@@ -110,16 +121,17 @@ def of_log(name, log, fault):
     )
 
 
-def at_line(fault, number):
-    return None if fault is None else fault + b" line_number=%d" % number
+def at_line(fault: bytes, number: int) -> bytes:
+    """Return the text of a fault at a line."""
+    return fault + b" line_number=%d" % number
 
 
-def of_session(text, fault, number):
+def of_session(text: bytes, fault: bytes | None, number: int) -> Case:
     """The text after the head, which is line 1."""
     if fault is None:
-        return Case(f"{text}, recorded", ("record", "b"), session() + text, out=SOME, file=SOME)
+        return Case(f"{text!r}, recorded", ("record", "b"), session() + text, out=SOME, file=SOME)
     return Case(
-        f"{text}, recorded",
+        f"{text!r}, recorded",
         ("record", "b"),
         session() + text,
         5,
@@ -127,8 +139,10 @@ def of_session(text, fault, number):
     )
 
 
-def with_blanks(line, count):
-    """Cases of a session that has so many blank lines after its head, and of one with a line after them that is no event."""
+def with_blanks(line: bytes, count: int) -> Iterator[Case]:
+    """Cases of a session that has so many blank lines after its head, and of one with a line after
+    them that is no event.
+    """
     head, events = SESSION.split(b"\n", 1)
     blanks = line * count
     name = f"{count} lines of {len(line)} bytes"
@@ -172,7 +186,7 @@ CASES = [
     ),
     *[
         Case(
-            f"{line} before a second start",
+            f"{line!r} before a second start",
             LIMITED,
             session_of(RUN_STARTED, b" ", line, RUN_STARTED),
             status,
@@ -180,9 +194,9 @@ CASES = [
         )
         for line, status, refusal in BEFORE_SECOND_START
     ],
-    *(of_log(f"{line} as fourth line", b"\n\n\n" + line, fault) for line, fault in FOURTH_LINES),
+    *(of_log(f"{line!r} as fourth line", b"\n\n\n" + line, fault) for line, fault in FOURTH_LINES),
     *(
-        of_log(f"{text}", text, at_line(fault, number))
+        of_log(f"{text!r}", text, fault and at_line(fault, number))
         for text, fault, number in TEXTS + MIXED_TEXTS
     ),
     *(of_session(*row) for row in TEXTS + MIXED_TEXTS),

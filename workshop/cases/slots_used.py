@@ -1,15 +1,17 @@
 """How the slots of a bundle's run were used, and which logs have no report of that."""
 
-import dataclasses
+from __future__ import annotations
 
-from workshop.cases.case import Case, Recorded
-from workshop.cases.made import (
-    bundle,
+import dataclasses
+from collections.abc import Sequence
+from typing import NamedTuple
+
+from workshop.cases.case import Case, Recorded, Words
+from workshop.cases.histories import (
+    Line,
     end,
     fail,
     go_on,
-    log_of,
-    logged_bundle,
     pause,
     retry,
     run,
@@ -20,6 +22,7 @@ from workshop.cases.made import (
     traced_log,
     traced_session,
 )
+from workshop.cases.made import bundle, log_of, logged_bundle
 from workshop.cases.texts import RUN_PAUSED, session_of
 
 # Two slots, a pause, and a test that is tried again.
@@ -48,13 +51,15 @@ GREATEST = 18446744073709551615
 SECOND = 1000000000
 
 
-def late(line, nanos):
+def late(line: Line, nanos: int) -> Line:
     """The same so many nanoseconds later."""
     return dataclasses.replace(line, nanos=nanos)
 
 
-def used(length, *slots):
-    """The lines of a run of so many seconds, and of slots that were busy, paused and idle for so many."""
+def used(length: int, *slots: tuple[int, int, int, int]) -> str:
+    """The lines of a run of so many seconds, and of slots that were busy, paused and idle for so
+    many.
+    """
     lines = [
         f"run={length * SECOND}",
         *(
@@ -65,11 +70,26 @@ def used(length, *slots):
     return "".join(f"{line}\n" for line in lines)
 
 
-# Events, and what is printed of them.
+class Usage(NamedTuple):
+    """A history, and what is printed of how its slots were used."""
+
+    events: list[Line]
+    out: str
+
+
+class Refusal(NamedTuple):
+    """A history, and the status and the line for which nothing is printed of it."""
+
+    events: list[Line]
+    status: int
+    line: str
+
+
+# Histories whose slots are shown.
 USAGES = {
-    "no attempt": ([run(1000), late(run_end(1002), 1)], "run=2000000001\n"),
-    "nothing at all": ([run(1000), run_end(1000)], used(0)),
-    "an attempt over a pause": (
+    "no attempt": Usage([run(1000), late(run_end(1002), 1)], "run=2000000001\n"),
+    "nothing at all": Usage([run(1000), run_end(1000)], used(0)),
+    "an attempt over a pause": Usage(
         [
             run(1000),
             start(1001, 1, 0),
@@ -80,7 +100,7 @@ USAGES = {
         ],
         used(15, (0, 6, 3, 6)),
     ),
-    "times of some nanoseconds": (
+    "times of some nanoseconds": Usage(
         [
             run(1000),
             late(start(1000, 1, 0), 1),
@@ -91,7 +111,7 @@ USAGES = {
         ],
         "run=15\nslot=0 busy=6 paused=3 idle=6\n",
     ),
-    "an attempt that starts in a pause": (
+    "an attempt that starts in a pause": Usage(
         [
             run(1000),
             pause(1001, 0),
@@ -102,7 +122,7 @@ USAGES = {
         ],
         used(6, (0, 1, 3, 2)),
     ),
-    "an attempt that starts in the pause of another": (
+    "an attempt that starts in the pause of another": Usage(
         [
             run(1000),
             start(1001, 1, 0),
@@ -115,7 +135,7 @@ USAGES = {
         ],
         used(15, (0, 5, 4, 6), (7, 5, 4, 6)),
     ),
-    "an attempt that ends in a pause": (
+    "an attempt that ends in a pause": Usage(
         [
             run(1000),
             start(1001, 1, 0),
@@ -126,7 +146,7 @@ USAGES = {
         ],
         used(6, (0, 1, 3, 2)),
     ),
-    "a retry on another slot": (
+    "a retry on another slot": Usage(
         [
             run(1000),
             start(1001, 2, 0),
@@ -137,7 +157,7 @@ USAGES = {
         ],
         used(6, (0, 1, 0, 5), (3, 2, 0, 4)),
     ),
-    "slots in another order": (
+    "slots in another order": Usage(
         [
             run(1000),
             start(1000, 1, 7),
@@ -148,11 +168,10 @@ USAGES = {
         ],
         used(2, (2, 2, 0, 0), (7, 1, 0, 1)),
     ),
-    "a continuation whose instant is after the run's start": (
-        [go_on(1007, 0), run(1006), run_end(1009)],
-        used(3),
+    "a continuation whose instant is after the run's start": Usage(
+        [go_on(1007, 0), run(1006), run_end(1009)], used(3)
     ),
-    "a pause before the run": (
+    "a pause before the run": Usage(
         [
             pause(1000, 0),
             run(1005),
@@ -163,9 +182,13 @@ USAGES = {
         ],
         used(5, (0, 1, 3, 1)),
     ),
-    "an instant that falls before the run": ([skip(1001, 1), run(1000), run_end(1002)], used(2)),
-    "an instant that falls after the run": ([run(1000), run_end(1002), skip(1001, 1)], used(2)),
-    "events of one instant": (
+    "an instant that falls before the run": Usage(
+        [skip(1001, 1), run(1000), run_end(1002)], used(2)
+    ),
+    "an instant that falls after the run": Usage(
+        [run(1000), run_end(1002), skip(1001, 1)], used(2)
+    ),
+    "events of one instant": Usage(
         [
             run(1000),
             start(1000, 1, 0),
@@ -178,38 +201,30 @@ USAGES = {
     ),
 }
 
-# Events, and the line and the status for which nothing is printed of them.
+# Histories whose slots aren't.
 REFUSED = {
-    "no run": ([], 14, "NotOneRun"),
-    "two runs": ([run(1000), run_end(1001), run(1002), run_end(1003)], 14, "NotOneRun"),
-    "a run that doesn't end": ([run(1000), start(1001, 1, 0), end(1002, 1, 0)], 14, "NotOneRun"),
-    "an end before the start": ([run_end(1000), run(1001)], 14, "NotOneRun"),
-    "a start before the run": (
-        [start(1000, 1, 0), run(1001), end(1002, 1, 0), run_end(1003)],
-        14,
-        "AttemptOutside event=1",
+    "no run": Refusal([], 14, "NotOneRun"),
+    "two runs": Refusal([run(1000), run_end(1001), run(1002), run_end(1003)], 14, "NotOneRun"),
+    "a run that doesn't end": Refusal(
+        [run(1000), start(1001, 1, 0), end(1002, 1, 0)], 14, "NotOneRun"
     ),
-    "an attempt before the run": (
-        [start(1000, 1, 0), end(1000, 1, 0), run(1001), run_end(1003)],
-        14,
-        "AttemptOutside event=1",
+    "an end before the start": Refusal([run_end(1000), run(1001)], 14, "NotOneRun"),
+    "a start before the run": Refusal(
+        [start(1000, 1, 0), run(1001), end(1002, 1, 0), run_end(1003)], 14, "AttemptOutside event=1"
     ),
-    "an attempt open at the end": (
-        [run(1000), start(1001, 1, 0), run_end(1002)],
-        14,
-        "AttemptOutside event=2",
+    "an attempt before the run": Refusal(
+        [start(1000, 1, 0), end(1000, 1, 0), run(1001), run_end(1003)], 14, "AttemptOutside event=1"
     ),
-    "an attempt that ends after the run": (
-        [run(1000), start(1001, 1, 0), run_end(1002), end(1003, 1, 0)],
-        14,
-        "AttemptOutside event=2",
+    "an attempt open at the end": Refusal(
+        [run(1000), start(1001, 1, 0), run_end(1002)], 14, "AttemptOutside event=2"
     ),
-    "a start after the run": (
-        [run(1000), run_end(1002), start(1003, 1, 0), end(1004, 1, 0)],
-        14,
-        "AttemptOutside event=3",
+    "an attempt that ends after the run": Refusal(
+        [run(1000), start(1001, 1, 0), run_end(1002), end(1003, 1, 0)], 14, "AttemptOutside event=2"
     ),
-    "a start after the run and an attempt inside": (
+    "a start after the run": Refusal(
+        [run(1000), run_end(1002), start(1003, 1, 0), end(1004, 1, 0)], 14, "AttemptOutside event=3"
+    ),
+    "a start after the run and an attempt inside": Refusal(
         [
             run(1000),
             start(1001, 1, 0),
@@ -221,37 +236,33 @@ REFUSED = {
         14,
         "AttemptOutside event=5",
     ),
-    "the first of two attempts": (
+    "the first of two attempts": Refusal(
         [start(1000, 1, 0), run(1001), start(1001, 2, 1), run_end(1003)],
         14,
         "AttemptOutside event=1",
     ),
-    "an end a nanosecond before": (
-        [run(1000), late(pause(1002, 0), 1), run_end(1002)],
-        14,
-        "StampFell event=3",
+    "an end a nanosecond before": Refusal(
+        [run(1000), late(pause(1002, 0), 1), run_end(1002)], 14, "StampFell event=3"
     ),
-    "the first of two falls": (
-        [run(1000), pause(1005, 0), go_on(1004, 0), run_end(1003)],
-        14,
-        "StampFell event=3",
+    "the first of two falls": Refusal(
+        [run(1000), pause(1005, 0), go_on(1004, 0), run_end(1003)], 14, "StampFell event=3"
     ),
-    "an attempt outside after a fall": (
+    "an attempt outside after a fall": Refusal(
         [run(1000), pause(1005, 0), go_on(1004, 0), start(1006, 1, 0), run_end(1007)],
         14,
         "AttemptOutside event=4",
     ),
-    "an event that contradicts others, after two runs": (
+    "an event that contradicts others, after two runs": Refusal(
         [run(1000), run_end(1000), run(1000), run_end(1000), start(1001, 1, 3), start(1001, 2, 3)],
         8,
         "Refused SlotBusy event=6 slot=3",
     ),
-    "an end without a start": (
+    "an end without a start": Refusal(
         [run(1000), end(1001, 1, 0), run_end(1002)],
         8,
         "Refused MissingTestStart event=2 binary_id=alpha::a test_name=t1",
     ),
-    "a slot that has no row": (
+    "a slot that has no row": Refusal(
         [run(1000), start(1001, 1, GREATEST - 9999), end(1002, 1, 0), run_end(1003)],
         9,
         f"Refused RowOutOfRange event=2 number={GREATEST - 9999}",
@@ -259,11 +270,11 @@ REFUSED = {
 }
 
 
-def printed(name, events, out):
+def printed(name: str, events: Sequence[Line], out: str) -> Case:
     return Case(f"slots of {name}", ("slots",), traced_bundle(events), out=out.encode())
 
 
-def refused(name, events, status, line):
+def refused(name: str, events: Sequence[Line], status: int, line: str) -> Case:
     return Case(
         f"slots of {name}",
         ("slots",),
@@ -273,7 +284,7 @@ def refused(name, events, status, line):
     )
 
 
-def unread(name, log, status, line, options=()):
+def unread(name: str, log: bytes, status: int, line: str, options: Words = ()) -> Case:
     """A case of a log that isn't read."""
     return Case(
         f"slots {name}",

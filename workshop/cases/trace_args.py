@@ -1,36 +1,42 @@
 """The trace events of each kind, by their texts, and the args of each that has some."""
 
-from workshop.cases.case import has
-from workshop.cases.made import (
+from __future__ import annotations
+
+from collections.abc import Sequence
+
+from workshop.cases.case import Holds, has
+from workshop.cases.events import (
     START_ERROR,
     attempt_failed,
     attempt_of,
     course,
-    duration,
-    event,
-    fail,
-    instant,
-    numbered,
-    pause,
-    retry,
     retry_started,
-    run,
     run_finished,
     run_started,
-    script,
     slot,
     slow_script,
     slow_test,
     sorted_stats,
-    start,
     status,
-    sub_run,
     sub_run_finished,
     sub_run_started,
     test_finished,
-    test_members,
     test_started,
 )
+from workshop.cases.histories import (
+    Line,
+    event,
+    fail,
+    numbered,
+    pause,
+    retry,
+    run,
+    script,
+    start,
+    sub_run,
+    test_members,
+)
+from workshop.cases.made import Members, duration, instant
 from workshop.cases.outlines import outlined, printed, refused, unwrapped
 
 HEAVY = {"global-slot": 0, "test-group": "heavy"}
@@ -45,30 +51,30 @@ ENDINGS = {
 }
 
 
-def went(ending, is_slow):
+def went(ending: str, is_slow: bool) -> Members:
     """How an attempt or a setup script went."""
     return course(START_ERROR, ENDINGS[ending], instant(1000), duration(2), is_slow)
 
 
-def attempted(number, ending, delay, error):
+def attempted(number: int, ending: str, delay: int, error: Members) -> Members:
     """The attempt of this number, of two, which ended so. It is slow where it was delayed."""
     return {**status(number, 2, went(ending, delay > 0), duration(0, delay)), **error}
 
 
-def of_first(secs, members, **before):
+def of_first(secs: int, members: Members, **before: object) -> Line:
     """An event of the first test."""
     return event(secs, {**test_members(1), **before, **members})
 
 
-def test_start(assigned, words):
+def test_start(assigned: Members, words: Sequence[str]) -> Line:
     return of_first(1001, test_started(numbered(1), assigned, sorted_stats(), 1, words))
 
 
-def test_retry(words):
+def test_retry(words: Sequence[str]) -> Line:
     return of_first(1001, retry_started(numbered(1), slot(), attempt_of(2, 2), 1, words))
 
 
-def test_was_slow(stress_index, will_terminate):
+def test_was_slow(stress_index: Members, will_terminate: bool) -> Line:
     return of_first(
         1002,
         slow_test(numbered(1), attempt_of(1, 2), duration(60, 7), will_terminate),
@@ -76,12 +82,17 @@ def test_was_slow(stress_index, will_terminate):
     )
 
 
-def failed(stress_index, run_status, delay):
+def failed(stress_index: Members, run_status: Members, delay: int) -> Line:
     """An attempt failed, after which another one follows in so many seconds."""
     return of_first(1002, attempt_failed(run_status, numbered(1), duration(delay)), **stress_index)
 
 
-def finished(endings, flaky_result, error, current_stats=sorted_stats()):
+def finished(
+    endings: str,
+    flaky_result: str,
+    error: Members,
+    current_stats: Members = sorted_stats(),
+) -> Line:
     """A test finished, whose attempts ended so."""
     attempts = [attempted(number, ending, 0, error) for number, ending in enumerate(endings, 1)]
     return of_first(
@@ -97,41 +108,41 @@ def finished(endings, flaky_result, error, current_stats=sorted_stats()):
     )
 
 
-def of_db_init(secs, members, stress_index):
+def of_db_init(secs: int, members: Members, stress_index: Members) -> Line:
     """An event of the setup script `db-init`."""
     return event(
         secs, {**stress_index, "script-id": "db-init", "program": "sh", "args": [], **members}
     )
 
 
-def db_init(kind, stress_index, more):
+def db_init(kind: str, stress_index: Members, more: Members) -> Line:
     """It starts or ends."""
     return of_db_init(
         1002, {"index": 0, "total": 1, "no-capture": False, "kind": kind, **more}, stress_index
     )
 
 
-def script_was_slow(stress_index, will_terminate):
+def script_was_slow(stress_index: Members, will_terminate: bool) -> Line:
     return of_db_init(
         1002, slow_script("db-init", "sh", duration(60, 7), will_terminate), stress_index
     )
 
 
-def run_start(profile, cli_args, stress_condition):
-    return event(1000, run_started(profile, cli_args, **stress_condition))
+def run_start(profile: str, cli_args: Sequence[str], stress_condition: Members) -> Line:
+    return event(1000, run_started(profile, cli_args, stress_condition))
 
 
-def run_finish(elapsed, stress, not_seen):
+def run_finish(elapsed: Members, stress: Members, not_seen: Members) -> Line:
     return event(1002, run_finished({"stress": stress}, 1000, elapsed, **not_seen))
 
 
-def args(phase, category, name, text):
+def args(phase: str, category: str, name: str, text: str) -> Holds:
     """A trace that has an event of this phase, category and name with these args."""
     line = f'{{"args":{unwrapped(text).strip()},"cat":"{category}","name":"{name}","ph":"{phase}",'
     return has(line.encode())
 
 
-def of_script(phase, name, text):
+def of_script(phase: str, name: str, text: str) -> Holds:
     """A trace that has an event of this phase and name of a setup script with these args."""
     return args(phase, "setup-script", name, text)
 
@@ -141,51 +152,62 @@ INDEX = {"stress-index": {"current": 3}}
 INDEX_OF_FIVE = {"stress-index": {"current": 3, "total": 5}}
 
 FAILED_OF_ALL = """\
-{"attempt":1,"binary_id":"alpha::a","delay_before_next_attempt":{"nanos":0,"secs":4},"delay_before_start":{"nanos":6,"secs":0},
+{"attempt":1,"binary_id":"alpha::a","delay_before_next_attempt":{"nanos":0,"secs":4},
+    "delay_before_start":{"nanos":6,"secs":0},
     "error":{"description":"thread panicked","short_message":"exit code 101"},"is_slow":true,
-    "result":{"fail":{"failure":{"exit-code":101},"leaked":false}},"stress_index":{"current":3,"total":null},"test_group":"heavy",
+    "result":{"fail":{"failure":{"exit-code":101},"leaked":false}},"stress_index":{"current":3,
+    "total":null},"test_group":"heavy",
     "test_name":"t1","time_taken":{"nanos":0,"secs":2},"total_attempts":2}
 """
 
 FAILED_OF_LEAST = """\
-{"attempt":1,"binary_id":"alpha::a","is_slow":false,"result":"exec-fail","test_group":"@global","test_name":"t1",
+{"attempt":1,"binary_id":"alpha::a","is_slow":false,"result":"exec-fail","test_group":"@global",
+    "test_name":"t1",
     "time_taken":{"nanos":0,"secs":2},"total_attempts":2}
 """
 
 PASSED_AT_ONCE = """\
-{"attempt":1,"binary_id":"alpha::a","is_slow":false,"result":"pass","test_group":"@global","test_name":"t1",
+{"attempt":1,"binary_id":"alpha::a","is_slow":false,"result":"pass","test_group":"@global",
+    "test_name":"t1",
     "time_taken":{"nanos":0,"secs":2},"total_attempts":2}
 """
 
 PASSED_AT_LAST = """\
-{"attempt":2,"binary_id":"alpha::a","flaky_result":"pass","is_slow":false,"result":"pass","test_group":"@global","test_name":"t1",
+{"attempt":2,"binary_id":"alpha::a","flaky_result":"pass","is_slow":false,"result":"pass",
+    "test_group":"@global","test_name":"t1",
     "time_taken":{"nanos":0,"secs":2},"total_attempts":2}
 """
 
 FLAKY_FAILURE = """\
-{"attempt":2,"binary_id":"alpha::a","error":{"description":"test passed on attempt 2/2 but is configured to fail when flaky",
-    "short_message":"flaky failure"},"flaky_result":"fail","is_slow":false,"result":"pass","test_group":"@global",
+{"attempt":2,"binary_id":"alpha::a",
+    "error":{"description":"test passed on attempt 2/2 but is configured to fail when flaky",
+    "short_message":"flaky failure"},"flaky_result":"fail","is_slow":false,"result":"pass",
+    "test_group":"@global",
     "test_name":"t1","time_taken":{"nanos":0,"secs":2},"total_attempts":2}
 """
 
 FLAKY_FAILURE_WITH_ERROR = """\
-{"attempt":2,"binary_id":"alpha::a","error":{"description":"thread panicked","short_message":"exit code 101"},
+{"attempt":2,"binary_id":"alpha::a","error":{"description":"thread panicked",
+    "short_message":"exit code 101"},
     "flaky_result":"fail","is_slow":false,"result":"pass","test_group":"@global","test_name":"t1",
     "time_taken":{"nanos":0,"secs":2},"total_attempts":2}
 """
 
 FAILED_AT_LAST = """\
-{"attempt":2,"binary_id":"alpha::a","is_slow":false,"result":"exec-fail","test_group":"@global","test_name":"t1",
+{"attempt":2,"binary_id":"alpha::a","is_slow":false,"result":"exec-fail","test_group":"@global",
+    "test_name":"t1",
     "time_taken":{"nanos":0,"secs":2},"total_attempts":2}
 """
 
 FAILED_BUSY = """\
-{"attempt":1,"binary_id":"alpha::a","cpu_time":{"nanos":0,"secs":1},"is_slow":false,"result":"exec-fail","test_group":"@global",
+{"attempt":1,"binary_id":"alpha::a","cpu_time":{"nanos":0,"secs":1},"is_slow":false,
+    "result":"exec-fail","test_group":"@global",
     "test_name":"t1","time_taken":{"nanos":0,"secs":2},"total_attempts":2}
 """
 
 PASSED_BUSY = """\
-{"attempt":2,"binary_id":"alpha::a","cpu_time":{"nanos":0,"secs":1},"flaky_result":"pass","is_slow":false,"result":"pass",
+{"attempt":2,"binary_id":"alpha::a","cpu_time":{"nanos":0,"secs":1},"flaky_result":"pass",
+    "is_slow":false,"result":"pass",
     "test_group":"@global","test_name":"t1","time_taken":{"nanos":0,"secs":2},"total_attempts":2}
 """
 
@@ -223,7 +245,10 @@ STARTS = [
     (
         "words of a retry",
         test_retry(["a"]),
-        '{"attempt":2,"binary_id":"alpha::a","command_line":["a"],"test_name":"t1","total_attempts":2}',
+        (
+            '{"attempt":2,"binary_id":"alpha::a","command_line":["a"],"test_name":"t1",'
+            '"total_attempts":2}'
+        ),
     ),
     (
         "no words of a retry",
@@ -233,11 +258,13 @@ STARTS = [
 ]
 
 SLOW_TEST_OF_ALL = """\
-{"attempt":1,"binary_id":"alpha::a","elapsed":{"nanos":7,"secs":60},"stress_index":{"current":3,"total":5},"test_name":"t1",
+{"attempt":1,"binary_id":"alpha::a","elapsed":{"nanos":7,"secs":60},"stress_index":{"current":3,
+    "total":5},"test_name":"t1",
     "will_terminate":true}
 """
 SLOW_TEST_OF_LEAST = """\
-{"attempt":1,"binary_id":"alpha::a","elapsed":{"nanos":7,"secs":60},"test_name":"t1","will_terminate":false}
+{"attempt":1,"binary_id":"alpha::a","elapsed":{"nanos":7,"secs":60},"test_name":"t1",
+    "will_terminate":false}
 """
 DB_INIT = db_init("setup-script-started", {}, {})
 FAILED_SCRIPT = db_init(
@@ -254,7 +281,8 @@ SCRIPT_END_OF_LEAST = """\
 {"is_slow":false,"result":"pass","script_id":"db-init","time_taken":{"nanos":0,"secs":2}}
 """
 SLOW_SCRIPT_OF_ALL = """\
-{"elapsed":{"nanos":7,"secs":60},"script_id":"db-init","stress_index":{"current":3,"total":5},"will_terminate":true}
+{"elapsed":{"nanos":7,"secs":60},"script_id":"db-init","stress_index":{"current":3,"total":5},
+    "will_terminate":true}
 """
 SLOW_SCRIPT_OF_LEAST = """\
 {"elapsed":{"nanos":7,"secs":60},"script_id":"db-init","will_terminate":false}
@@ -272,11 +300,13 @@ SLOW_SCRIPTS = [
 CI_RUN = run_start("ci", ["nextest", "run"], {"stress-condition": {"count": 3}})
 
 RUN_OF_ALL = """\
-{"cli_args":["nextest","run"],"nextest_version":"0.9.111","profile":"ci","run_id":"550e8400-e29b-41d4-a716-446655440000",
+{"cli_args":["nextest","run"],"nextest_version":"0.9.111","profile":"ci",
+    "run_id":"550e8400-e29b-41d4-a716-446655440000",
     "stress_condition":{"count":3}}
 """
 RUN_OF_LEAST = """\
-{"cli_args":[],"nextest_version":"0.9.111","profile":"default","run_id":"550e8400-e29b-41d4-a716-446655440000"}
+{"cli_args":[],"nextest_version":"0.9.111","profile":"default",
+    "run_id":"550e8400-e29b-41d4-a716-446655440000"}
 """
 THIRD_OF_THREE = {
     "completed": {"current": 2, "total": 3},
@@ -294,12 +324,14 @@ SEVEN_NOT_SEEN = {"outstanding-not-seen": {"not-seen": [], "total-not-seen": 7}}
 
 RUN_END_OF_ALL = """\
 {"nextest_version":"0.9.111","outstanding_not_seen":{"total_not_seen":7},"profile":"ci",
-    "run_stats":{"stress":{"completed":{"current":2,"total":3},"failed-count":1,"last-final-stats":"no-tests-run",
+    "run_stats":{"stress":{"completed":{"current":2,"total":3},"failed-count":1,
+    "last-final-stats":"no-tests-run",
     "success-count":2}},"time_taken":{"nanos":5,"secs":11}}
 """
 
 RUN_END_OF_LEAST = """\
-{"nextest_version":"0.9.111","profile":"default","run_stats":{"stress":{"completed":{"current":0},"failed-count":0,
+{"nextest_version":"0.9.111","profile":"default","run_stats":{"stress":{"completed":{"current":0},
+    "failed-count":0,
     "last-final-stats":"success","success-count":1}},"time_taken":{"nanos":0,"secs":0}}
 """
 COUNTED = event(1001, sub_run_started(4, 9))
@@ -310,15 +342,22 @@ COUNTED_PROGRESS = '{"progress":{"count":{"completed":4,"elapsed":{"nanos":0,"se
 
 SUB_RUN_END = """\
 {"progress":{"time":{"completed":4,"elapsed":{"nanos":0,"secs":9},"total":{"nanos":0,"secs":60}}},
-    "sub_stats":{"exec-failed":0,"failed":0,"failed-slow":0,"failed-timed-out":0,"finished-count":0,"flaky":0,
-    "initial-run-count":0,"leaky":0,"leaky-failed":0,"passed":0,"passed-slow":0,"passed-timed-out":0,
-    "setup-scripts-exec-failed":0,"setup-scripts-failed":0,"setup-scripts-finished-count":0,"setup-scripts-initial-count":0,
-    "setup-scripts-passed":0,"setup-scripts-timed-out":0,"skipped":0},"time_taken":{"nanos":1,"secs":2}}
+    "sub_stats":{"exec-failed":0,"failed":0,"failed-slow":0,"failed-timed-out":0,
+    "finished-count":0,"flaky":0,
+    "initial-run-count":0,"leaky":0,"leaky-failed":0,"passed":0,"passed-slow":0,
+    "passed-timed-out":0,
+    "setup-scripts-exec-failed":0,"setup-scripts-failed":0,"setup-scripts-finished-count":0,
+    "setup-scripts-initial-count":0,
+    "setup-scripts-passed":0,"setup-scripts-timed-out":0,"skipped":0},"time_taken":{"nanos":1,
+    "secs":2}}
 """
 
 # Whole trace events.
 
-BEGIN_WITH_ARGS = '{"args":{"binary_id":"alpha::a","test_name":"t1"},"cat":"test","name":"t1","ph":"B","pid":2,"tid":10000,"ts":1002000000}'
+BEGIN_WITH_ARGS = (
+    '{"args":{"binary_id":"alpha::a","test_name":"t1"},"cat":"test","name":"t1","ph":"B","pid":2,'
+    '"tid":10000,"ts":1002000000}'
+)
 END_WITHOUT_ARGS = '{"cat":"test","name":"t1","ph":"E","pid":2,"tid":10000,"ts":-5}'
 
 EACH_CATEGORY = """\
@@ -329,54 +368,76 @@ B test:t1 2/10000 1000000000
 """
 
 NAMES_OF_THE_RUN = [
-    '{"args":{"name":"nextest run"},"cat":"","name":"process_name","ph":"M","pid":0,"tid":0,"ts":0}',
-    '{"args":{"sort_index":0},"cat":"","name":"process_sort_index","ph":"M","pid":0,"tid":0,"ts":0}',
+    (
+        '{"args":{"name":"nextest run"},"cat":"","name":"process_name","ph":"M","pid":0,"tid":0,'
+        '"ts":0}'
+    ),
+    (
+        '{"args":{"sort_index":0},"cat":"","name":"process_sort_index","ph":"M","pid":0,"tid":0,'
+        '"ts":0}'
+    ),
     '{"args":{"name":"run"},"cat":"","name":"thread_name","ph":"M","pid":0,"tid":1,"ts":0}',
     '{"args":{"sort_index":1},"cat":"","name":"thread_sort_index","ph":"M","pid":0,"tid":1,"ts":0}',
 ]
 
 NAMES_OF_ANOTHER = [
     '{"args":{"name":"beta::b"},"cat":"","name":"process_name","ph":"M","pid":3,"tid":0,"ts":0}',
-    '{"args":{"sort_index":3},"cat":"","name":"process_sort_index","ph":"M","pid":3,"tid":0,"ts":0}',
+    (
+        '{"args":{"sort_index":3},"cat":"","name":"process_sort_index","ph":"M","pid":3,"tid":0,'
+        '"ts":0}'
+    ),
     '{"args":{"name":"slot-1"},"cat":"","name":"thread_name","ph":"M","pid":3,"tid":10001,"ts":0}',
-    '{"args":{"sort_index":10001},"cat":"","name":"thread_sort_index","ph":"M","pid":3,"tid":10001,"ts":0}',
+    (
+        '{"args":{"sort_index":10001},"cat":"","name":"thread_sort_index","ph":"M","pid":3,'
+        '"tid":10001,"ts":0}'
+    ),
 ]
-CONCURRENCY = '{"args":{"running_scripts":0,"running_tests":1},"cat":"run","name":"concurrency","ph":"C","pid":0,"tid":0,"ts":1002000000}'
-RESULTS = '{"args":{"failed":2,"flaky":1,"passed":5},"cat":"run","name":"test results","ph":"C","pid":0,"tid":0,"ts":1002000000}'
+CONCURRENCY = (
+    '{"args":{"running_scripts":0,"running_tests":1},"cat":"run","name":"concurrency","ph":"C",'
+    '"pid":0,"tid":0,"ts":1002000000}'
+)
+RESULTS = (
+    '{"args":{"failed":2,"flaky":1,"passed":5},"cat":"run","name":"test results","ph":"C","pid":0,'
+    '"tid":0,"ts":1002000000}'
+)
 RESULTS_COUNTED = sorted_stats(passed=5, flaky=1, failed=2)
 RESULTS_SUMMED = sorted_stats(passed=5, flaky=1, failed=2, exec_failed=3, failed_timed_out=4)
 SUM = '{"failed":9,"flaky":1,"passed":5}'
-PAST_64_BITS = {**RESULTS_SUMMED, "exec-failed": 18446744073709551615}
-MARKED = {"setup-scripts-running": 0, "running": 1}
-PAUSE = {**MARKED, "kind": "run-paused"}
-CANCEL = {**MARKED, "kind": "run-begin-cancel", "reason": "test-failure-immediate"}
+PAST_64_BITS: Members = {**RESULTS_SUMMED, "exec-failed": 18446744073709551615}
+MARKED: Members = {"setup-scripts-running": 0, "running": 1}
+PAUSE: Members = {**MARKED, "kind": "run-paused"}
+CANCEL: Members = {**MARKED, "kind": "run-begin-cancel", "reason": "test-failure-immediate"}
 PAUSED = """\
-{"args":{"running":1,"setup_scripts_running":0},"cat":"run","name":"paused","ph":"i","pid":0,"s":"p","tid":1,"ts":1002000000}
+{"args":{"running":1,"setup_scripts_running":0},"cat":"run","name":"paused","ph":"i","pid":0,
+    "s":"p","tid":1,"ts":1002000000}
 """
 CONTINUED = """\
-{"args":{"running":1,"setup_scripts_running":0},"cat":"run","name":"continued","ph":"i","pid":0,"s":"p","tid":1,"ts":1002000000}
+{"args":{"running":1,"setup_scripts_running":0},"cat":"run","name":"continued","ph":"i","pid":0,
+    "s":"p","tid":1,"ts":1002000000}
 """
 
 CANCELLED = """\
-{"args":{"reason":"test-failure-immediate","running":1,"setup_scripts_running":0},"cat":"run","name":"cancel","ph":"i","pid":0,
+{"args":{"reason":"test-failure-immediate","running":1,"setup_scripts_running":0},"cat":"run",
+    "name":"cancel","ph":"i","pid":0,
     "s":"p","tid":1,"ts":1002000000}
 """
 SLOW_TEST = '"cat":"test","name":"slow","ph":"i","pid":2,"s":"t","tid":10003,"ts":1002000000}'
 SLOW_SCRIPT = (
     '"cat":"setup-script","name":"slow","ph":"i","pid":1,"s":"t","tid":10000,"ts":1002000000}'
 )
-# Both with all members: of the second of three attempts of a test that will be stopped, and of a setup script in a stress run.
+# Both with all members: of the second of three attempts of a test that will be stopped, and of a
+# setup script in a stress run.
 STOPPED = of_first(1002, slow_test(numbered(1), attempt_of(2, 3), duration(60, 5), True))
 STRESSED = event(
     1002, {"stress-index": {"current": 1}, **slow_script("db1", "sh", duration(60, 5))}
 )
 SLOW_AND_STOPPED = (
-    '{"args":{"attempt":2,"binary_id":"alpha::a","elapsed":{"nanos":5,"secs":60},"test_name":"t1","will_terminate":true},'
-    + SLOW_TEST
-)
+    '{"args":{"attempt":2,"binary_id":"alpha::a","elapsed":{"nanos":5,"secs":60},'
+    '"test_name":"t1","will_terminate":true},'
+) + SLOW_TEST
 SLOW_UNDER_STRESS = (
-    '{"args":{"elapsed":{"nanos":5,"secs":60},"script_id":"db1","stress_index":{"current":1,"total":null},'
-    '"will_terminate":false},' + SLOW_SCRIPT
+    '{"args":{"elapsed":{"nanos":5,"secs":60},"script_id":"db1","stress_index":{"current":1,'
+    '"total":null},"will_terminate":false},' + SLOW_SCRIPT
 )
 ARROW_START = '{"cat":"test","id":0,"name":"retry","ph":"s","pid":2,"tid":10001,"ts":1002000000}'
 ARROW_FINISH = (
@@ -384,12 +445,12 @@ ARROW_FINISH = (
 )
 
 
-def lines(*texts):
+def lines(*texts: str) -> Holds:
     """A trace that has these trace events one after the other."""
     return has(",".join(unwrapped(text).strip() for text in texts).encode())
 
 
-def named(name, kind):
+def named(name: str, kind: str) -> Holds:
     """A trace that gives this name to a process or a thread."""
     return has(f'{{"args":{{"name":"{name}"}},"cat":"","name":"{kind}",'.encode())
 

@@ -1,7 +1,11 @@
-"""The names of processes and rows, each of which is given once, what a trace says of its run, and the counters."""
+"""The names of processes and rows, each of which is given once, what a trace says of its run, and
+the counters.
+"""
+
+from __future__ import annotations
 
 from workshop.cases.case import Holds, begins
-from workshop.cases.made import (
+from workshop.cases.histories import (
     cancel,
     end,
     event,
@@ -137,7 +141,10 @@ M :thread_name 1/18446744073709551615 0 {"name":"script-18446744073709541615"}
 M :thread_sort_index 1/18446744073709551615 0 {"sort_index":18446744073709551615}
 """
 NO_RUN_SAID = b'{"nextest_version":"0.9.111"}'
-A_RUN_SAID = b'{"nextest_version":"0.9.111","profile_name":"default","run_id":"550e8400-e29b-41d4-a716-446655440000"}'
+A_RUN_SAID = (
+    b'{"nextest_version":"0.9.111","profile_name":"default",'
+    b'"run_id":"550e8400-e29b-41d4-a716-446655440000"}'
+)
 
 THE_LAST_RUN_SAID = (
     b'{"cli_args":["nextest","run"],"nextest_version":"0.9.111","profile_name":"ci",'
@@ -223,7 +230,8 @@ C run:test results 0/0 1017000000 {"failed":7,"flaky":0,"passed":0}
 C run:concurrency 0/0 1018000000 {"running_scripts":1,"running_tests":0}
 """
 
-# Setup scripts are counted, never below none, and a pause, a continuation or a cancel says anew how many run.
+# Setup scripts are counted, never below none, and a pause, a continuation or a cancel says anew how
+# many run.
 RUNNING_SCRIPTS = [
     script(1000, 0, 1),
     script(1001, 1, 1),
@@ -265,12 +273,12 @@ C run:concurrency 0/0 1002000000 {"running_scripts":18446744073709551614,"runnin
 """
 
 
-def says(other):
+def says(other: bytes) -> Holds:
     """A trace that says this beside its events."""
     return begins(b'{"displayTimeUnit":"ms","otherData":' + other + b',"traceEvents":[')
 
 
-def profiles(trace):
+def profiles(trace: bytes) -> list[object]:
     """The profiles of two runs, by the args of their begins and ends."""
     return [event.get("args", {}).get("profile") for event in (listed(trace) or [])[4:8]]
 

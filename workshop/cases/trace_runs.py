@@ -1,6 +1,9 @@
 """What runs, the runs of a stress run, setup scripts, pauses, continuations and cancels draw."""
 
-from workshop.cases.made import (
+from __future__ import annotations
+
+from workshop.cases.events import sorted_stats
+from workshop.cases.histories import (
     end,
     event,
     go_on,
@@ -10,11 +13,11 @@ from workshop.cases.made import (
     script,
     script_end,
     script_slow,
-    sorted_stats,
     start,
     sub_run,
     sub_run_end,
 )
+from workshop.cases.made import Members
 from workshop.cases.outlines import drawn, outlined
 
 RUN_WITH_ALL = {
@@ -30,13 +33,16 @@ RUN_WITH_ALL_DRAWN = """\
 {"args":{"sort_index":0},"cat":"","name":"process_sort_index","ph":"M","pid":0,"tid":0,"ts":0}
 {"args":{"name":"run"},"cat":"","name":"thread_name","ph":"M","pid":0,"tid":1,"ts":0}
 {"args":{"sort_index":1},"cat":"","name":"thread_sort_index","ph":"M","pid":0,"tid":1,"ts":0}
-{"args":{"cli_args":["nextest","run"],"nextest_version":"0.9.111","profile":"ci","run_id":"6ba7b810-9dad-11d1-80b4-00c04fd430c8",
-    "stress_condition":{"count":3}},"cat":"run","name":"test run","ph":"B","pid":0,"tid":1,"ts":1002000000}
+{"args":{"cli_args":["nextest","run"],"nextest_version":"0.9.111","profile":"ci",
+    "run_id":"6ba7b810-9dad-11d1-80b4-00c04fd430c8",
+    "stress_condition":{"count":3}},"cat":"run","name":"test run","ph":"B","pid":0,"tid":1,
+    "ts":1002000000}
 """
 
 # A second run, of which nothing but its begin is drawn.
 RUN_WITH_LEAST_DRAWN = """\
-{"args":{"cli_args":[],"nextest_version":"0.9.111","profile":"default","run_id":"550e8400-e29b-41d4-a716-446655440000"},
+{"args":{"cli_args":[],"nextest_version":"0.9.111","profile":"default",
+    "run_id":"550e8400-e29b-41d4-a716-446655440000"},
     "cat":"run","name":"test run","ph":"B","pid":0,"tid":1,"ts":1002000000}
 """
 
@@ -50,8 +56,10 @@ RUN_FOR_A_TIME = {
 
 # In a pause, in which the row of the run was named.
 RUN_FOR_A_TIME_DRAWN = """\
-{"args":{"cli_args":[""],"nextest_version":"0.9.111","profile":"default","run_id":"550e8400-e29b-41d4-a716-446655440000",
-    "stress_condition":{"duration":{"nanos":7,"secs":60}}},"cat":"run","name":"test run","ph":"B","pid":0,"tid":1,"ts":1002000000}
+{"args":{"cli_args":[""],"nextest_version":"0.9.111","profile":"default",
+    "run_id":"550e8400-e29b-41d4-a716-446655440000",
+    "stress_condition":{"duration":{"nanos":7,"secs":60}}},"cat":"run","name":"test run","ph":"B",
+    "pid":0,"tid":1,"ts":1002000000}
 {"cat":"run","name":"test run","ph":"E","pid":0,"tid":1,"ts":1002000000}
 """
 
@@ -66,7 +74,7 @@ RUN_END_WITH_ALL = {
             "success-count": 2,
             "failed-count": 1,
             "last-final-stats": "no-tests-run",
-        },
+        }
     },
     "outstanding-not-seen": {
         "not-seen": [{"binary-id": "alpha::a", "test-name": "t1"}],
@@ -75,20 +83,28 @@ RUN_END_WITH_ALL = {
 }
 
 RUN_END_WITH_ALL_DRAWN = """\
-{"args":{"nextest_version":"0.9.111","outstanding_not_seen":{"total_not_seen":7},"profile":"default",
-    "run_stats":{"stress":{"completed":{"current":2,"total":3},"failed-count":1,"last-final-stats":"no-tests-run",
-    "success-count":2}},"time_taken":{"nanos":5,"secs":11}},"cat":"run","name":"test run","ph":"E","pid":0,"tid":1,
+{"args":{"nextest_version":"0.9.111","outstanding_not_seen":{"total_not_seen":7},
+    "profile":"default",
+    "run_stats":{"stress":{"completed":{"current":2,"total":3},"failed-count":1,
+    "last-final-stats":"no-tests-run",
+    "success-count":2}},"time_taken":{"nanos":5,"secs":11}},"cat":"run","name":"test run","ph":"E",
+    "pid":0,"tid":1,
     "ts":1002000000}
 """
 
 # In a pause.
 RUN_END_WITH_LEAST_DRAWN = """\
 {"cat":"run","name":"test run","ph":"B","pid":0,"tid":1,"ts":1002000000}
-{"args":{"nextest_version":"0.9.111","profile":"default","run_stats":{"single":{"exec-failed":1,"failed":0,"failed-slow":0,
-    "failed-timed-out":0,"finished-count":0,"flaky":0,"initial-run-count":1,"leaky":0,"leaky-failed":0,"passed":0,"passed-slow":0,
-    "passed-timed-out":0,"setup-scripts-exec-failed":0,"setup-scripts-failed":0,"setup-scripts-finished-count":0,
-    "setup-scripts-initial-count":0,"setup-scripts-passed":0,"setup-scripts-timed-out":0,"skipped":0}},
-    "time_taken":{"nanos":0,"secs":1}},"cat":"run","name":"test run","ph":"E","pid":0,"tid":1,"ts":1002000000}
+{"args":{"nextest_version":"0.9.111","profile":"default","run_stats":{"single":{"exec-failed":1,
+    "failed":0,"failed-slow":0,
+    "failed-timed-out":0,"finished-count":0,"flaky":0,"initial-run-count":1,"leaky":0,
+    "leaky-failed":0,"passed":0,"passed-slow":0,
+    "passed-timed-out":0,"setup-scripts-exec-failed":0,"setup-scripts-failed":0,
+    "setup-scripts-finished-count":0,
+    "setup-scripts-initial-count":0,"setup-scripts-passed":0,"setup-scripts-timed-out":0,
+    "skipped":0}},
+    "time_taken":{"nanos":0,"secs":1}},"cat":"run","name":"test run","ph":"E","pid":0,"tid":1,
+    "ts":1002000000}
 """
 NO_RUN = [sub_run(1000), start(1001, 1, 0), pause(1001, 0)]
 
@@ -109,7 +125,8 @@ SUB_RUN_FOR_A_TIME_DRAWN = """\
 {"args":{"sort_index":0},"cat":"","name":"process_sort_index","ph":"M","pid":0,"tid":0,"ts":0}
 {"args":{"name":"stress sub-runs"},"cat":"","name":"thread_name","ph":"M","pid":0,"tid":2,"ts":0}
 {"args":{"sort_index":2},"cat":"","name":"thread_sort_index","ph":"M","pid":0,"tid":2,"ts":0}
-{"args":{"progress":{"time":{"completed":4,"elapsed":{"nanos":8,"secs":9},"total":{"nanos":0,"secs":60}}}},"cat":"stress",
+{"args":{"progress":{"time":{"completed":4,"elapsed":{"nanos":8,"secs":9},"total":{"nanos":0,
+    "secs":60}}}},"cat":"stress",
     "name":"sub-run","ph":"B","pid":0,"tid":2,"ts":1002000000}
 """
 
@@ -117,32 +134,35 @@ SUB_RUN_FOR_A_TIME_DRAWN = """\
 SUB_RUN_WITH_LEAST_DRAWN = """\
 {"args":{"name":"stress sub-runs"},"cat":"","name":"thread_name","ph":"M","pid":0,"tid":2,"ts":0}
 {"args":{"sort_index":2},"cat":"","name":"thread_sort_index","ph":"M","pid":0,"tid":2,"ts":0}
-{"args":{"progress":{"count":{"completed":0,"elapsed":{"nanos":0,"secs":1}}}},"cat":"stress","name":"sub-run","ph":"B","pid":0,
+{"args":{"progress":{"count":{"completed":0,"elapsed":{"nanos":0,"secs":1}}}},"cat":"stress",
+    "name":"sub-run","ph":"B","pid":0,
     "tid":2,"ts":1002000000}
 {"cat":"stress","name":"sub-run","ph":"E","pid":0,"tid":2,"ts":1002000000}
 """
 
+SUB_RUN_STATS: Members = {
+    **sorted_stats(
+        exec_failed=3, failed=2, failed_timed_out=4, flaky=6, initial_run_count=7, passed=5
+    ),
+    "cancel-reason": "second-signal",
+}
 SUB_RUN_END_WITH_ALL = {
     "kind": "stress-sub-run-finished",
     "progress": {"count": {"total": 5, "elapsed": {"secs": 9, "nanos": 0}, "completed": 5}},
     "sub-elapsed": {"secs": 2, "nanos": 1},
-    "sub-stats": sorted_stats(
-        exec_failed=3,
-        failed=2,
-        failed_timed_out=4,
-        flaky=6,
-        initial_run_count=7,
-        passed=5,
-        cancel_reason="second-signal",
-    ),
+    "sub-stats": SUB_RUN_STATS,
 }
 
 SUB_RUN_END_WITH_ALL_DRAWN = """\
 {"args":{"progress":{"count":{"completed":5,"elapsed":{"nanos":0,"secs":9},"total":5}},
-    "sub_stats":{"cancel-reason":"second-signal","exec-failed":3,"failed":2,"failed-slow":0,"failed-timed-out":4,
-    "finished-count":0,"flaky":6,"initial-run-count":7,"leaky":0,"leaky-failed":0,"passed":5,"passed-slow":0,"passed-timed-out":0,
-    "setup-scripts-exec-failed":0,"setup-scripts-failed":0,"setup-scripts-finished-count":0,"setup-scripts-initial-count":0,
-    "setup-scripts-passed":0,"setup-scripts-timed-out":0,"skipped":0},"time_taken":{"nanos":1,"secs":2}},"cat":"stress",
+    "sub_stats":{"cancel-reason":"second-signal","exec-failed":3,"failed":2,"failed-slow":0,
+    "failed-timed-out":4,
+    "finished-count":0,"flaky":6,"initial-run-count":7,"leaky":0,"leaky-failed":0,"passed":5,
+    "passed-slow":0,"passed-timed-out":0,
+    "setup-scripts-exec-failed":0,"setup-scripts-failed":0,"setup-scripts-finished-count":0,
+    "setup-scripts-initial-count":0,
+    "setup-scripts-passed":0,"setup-scripts-timed-out":0,"skipped":0},"time_taken":{"nanos":1,
+    "secs":2}},"cat":"stress",
     "name":"sub-run","ph":"E","pid":0,"tid":2,"ts":1002000000}
 """
 
@@ -150,10 +170,14 @@ SUB_RUN_END_WITH_ALL_DRAWN = """\
 SUB_RUN_END_WITH_LEAST_DRAWN = """\
 {"cat":"stress","name":"sub-run","ph":"B","pid":0,"tid":2,"ts":1002000000}
 {"args":{"progress":{"count":{"completed":1,"elapsed":{"nanos":0,"secs":1}}},
-    "sub_stats":{"exec-failed":1,"failed":0,"failed-slow":0,"failed-timed-out":0,"finished-count":0,"flaky":0,
-    "initial-run-count":1,"leaky":0,"leaky-failed":0,"passed":0,"passed-slow":0,"passed-timed-out":0,
-    "setup-scripts-exec-failed":0,"setup-scripts-failed":0,"setup-scripts-finished-count":0,"setup-scripts-initial-count":0,
-    "setup-scripts-passed":0,"setup-scripts-timed-out":0,"skipped":0},"time_taken":{"nanos":0,"secs":1}},"cat":"stress",
+    "sub_stats":{"exec-failed":1,"failed":0,"failed-slow":0,"failed-timed-out":0,
+    "finished-count":0,"flaky":0,
+    "initial-run-count":1,"leaky":0,"leaky-failed":0,"passed":0,"passed-slow":0,
+    "passed-timed-out":0,
+    "setup-scripts-exec-failed":0,"setup-scripts-failed":0,"setup-scripts-finished-count":0,
+    "setup-scripts-initial-count":0,
+    "setup-scripts-passed":0,"setup-scripts-timed-out":0,"skipped":0},"time_taken":{"nanos":0,
+    "secs":1}},"cat":"stress",
     "name":"sub-run","ph":"E","pid":0,"tid":2,"ts":1002000000}
 """
 
@@ -174,18 +198,22 @@ SCRIPT_START_WITH_ALL_DRAWN = """\
 {"args":{"name":"setup-scripts"},"cat":"","name":"process_name","ph":"M","pid":1,"tid":0,"ts":0}
 {"args":{"sort_index":1},"cat":"","name":"process_sort_index","ph":"M","pid":1,"tid":0,"ts":0}
 {"args":{"name":"script-7"},"cat":"","name":"thread_name","ph":"M","pid":1,"tid":10007,"ts":0}
-{"args":{"sort_index":10007},"cat":"","name":"thread_sort_index","ph":"M","pid":1,"tid":10007,"ts":0}
+{"args":{"sort_index":10007},"cat":"","name":"thread_sort_index","ph":"M","pid":1,"tid":10007,
+    "ts":0}
 {"cat":"setup-script","name":"db-init","ph":"B","pid":1,"tid":10007,"ts":1002000000}
-{"args":{"running_scripts":1,"running_tests":0},"cat":"run","name":"concurrency","ph":"C","pid":0,"tid":0,"ts":1002000000}
+{"args":{"running_scripts":1,"running_tests":0},"cat":"run","name":"concurrency","ph":"C","pid":0,
+    "tid":0,"ts":1002000000}
 """
 
 # In a pause that said that three run, beside a test.
 SCRIPT_START_WITH_LEAST_DRAWN = """\
 {"args":{"name":"script-0"},"cat":"","name":"thread_name","ph":"M","pid":1,"tid":10000,"ts":0}
-{"args":{"sort_index":10000},"cat":"","name":"thread_sort_index","ph":"M","pid":1,"tid":10000,"ts":0}
+{"args":{"sort_index":10000},"cat":"","name":"thread_sort_index","ph":"M","pid":1,"tid":10000,
+    "ts":0}
 {"cat":"setup-script","name":"db1","ph":"B","pid":1,"tid":10000,"ts":1002000000}
 {"cat":"setup-script","name":"db1","ph":"E","pid":1,"tid":10000,"ts":1002000000}
-{"args":{"running_scripts":4,"running_tests":1},"cat":"run","name":"concurrency","ph":"C","pid":0,"tid":0,"ts":1002000000}
+{"args":{"running_scripts":4,"running_tests":1},"cat":"run","name":"concurrency","ph":"C","pid":0,
+    "tid":0,"ts":1002000000}
 """
 
 SCRIPT_FINISH_WITH_ALL = {
@@ -210,17 +238,22 @@ SCRIPT_FINISH_WITH_ALL = {
 
 SCRIPT_FINISH_WITH_ALL_DRAWN = """\
 {"args":{"error":{"description":"no such database","short_message":"exit code 101"},"is_slow":true,
-    "result":{"fail":{"failure":{"exit-code":101},"leaked":false}},"script_id":"db1","stress_index":{"current":3,"total":null},
-    "time_taken":{"nanos":5,"secs":2}},"cat":"setup-script","name":"db1","ph":"E","pid":1,"tid":10000,"ts":1002000000}
-{"args":{"running_scripts":1,"running_tests":0},"cat":"run","name":"concurrency","ph":"C","pid":0,"tid":0,"ts":1002000000}
+    "result":{"fail":{"failure":{"exit-code":101},"leaked":false}},"script_id":"db1",
+    "stress_index":{"current":3,"total":null},
+    "time_taken":{"nanos":5,"secs":2}},"cat":"setup-script","name":"db1","ph":"E","pid":1,
+    "tid":10000,"ts":1002000000}
+{"args":{"running_scripts":1,"running_tests":0},"cat":"run","name":"concurrency","ph":"C","pid":0,
+    "tid":0,"ts":1002000000}
 """
 
 # In a pause that said that none run, beside a test.
 SCRIPT_FINISH_WITH_LEAST_DRAWN = """\
 {"cat":"setup-script","name":"db1","ph":"B","pid":1,"tid":10000,"ts":1002000000}
-{"args":{"is_slow":false,"result":"exec-fail","script_id":"db1","time_taken":{"nanos":0,"secs":1}},"cat":"setup-script",
+{"args":{"is_slow":false,"result":"exec-fail","script_id":"db1","time_taken":{"nanos":0,"secs":1}},
+    "cat":"setup-script",
     "name":"db1","ph":"E","pid":1,"tid":10000,"ts":1002000000}
-{"args":{"running_scripts":0,"running_tests":1},"cat":"run","name":"concurrency","ph":"C","pid":0,"tid":0,"ts":1002000000}
+{"args":{"running_scripts":0,"running_tests":1},"cat":"run","name":"concurrency","ph":"C","pid":0,
+    "tid":0,"ts":1002000000}
 """
 
 SCRIPT_SLOW_WITH_ALL = {
@@ -234,13 +267,15 @@ SCRIPT_SLOW_WITH_ALL = {
 }
 
 SCRIPT_SLOW_WITH_ALL_DRAWN = """\
-{"args":{"elapsed":{"nanos":7,"secs":60},"script_id":"db1","stress_index":{"current":3,"total":5},"will_terminate":true},
+{"args":{"elapsed":{"nanos":7,"secs":60},"script_id":"db1","stress_index":{"current":3,"total":5},
+    "will_terminate":true},
     "cat":"setup-script","name":"slow","ph":"i","pid":1,"s":"t","tid":10000,"ts":1002000000}
 """
 
 # On the smallest open index of three with this id; smaller ones are of another id, and ended.
 SCRIPT_SLOW_WITH_LEAST_DRAWN = """\
-{"args":{"elapsed":{"nanos":0,"secs":1},"script_id":"db1","will_terminate":false},"cat":"setup-script","name":"slow","ph":"i",
+{"args":{"elapsed":{"nanos":0,"secs":1},"script_id":"db1","will_terminate":false},
+    "cat":"setup-script","name":"slow","ph":"i",
     "pid":1,"s":"t","tid":10003,"ts":1002000000}
 """
 THREE_OF_AN_ID = [
@@ -263,66 +298,80 @@ CANCELLED = {
 
 # The first event.
 CANCELLED_DRAWN = """\
-{"args":{"running_scripts":2,"running_tests":3},"cat":"run","name":"concurrency","ph":"C","pid":0,"tid":0,"ts":1002000000}
+{"args":{"running_scripts":2,"running_tests":3},"cat":"run","name":"concurrency","ph":"C","pid":0,
+    "tid":0,"ts":1002000000}
 {"args":{"name":"nextest run"},"cat":"","name":"process_name","ph":"M","pid":0,"tid":0,"ts":0}
 {"args":{"sort_index":0},"cat":"","name":"process_sort_index","ph":"M","pid":0,"tid":0,"ts":0}
 {"args":{"name":"run"},"cat":"","name":"thread_name","ph":"M","pid":0,"tid":1,"ts":0}
 {"args":{"sort_index":1},"cat":"","name":"thread_sort_index","ph":"M","pid":0,"tid":1,"ts":0}
-{"args":{"reason":"test-failure-immediate","running":3,"setup_scripts_running":2},"cat":"run","name":"cancel","ph":"i","pid":0,
+{"args":{"reason":"test-failure-immediate","running":3,"setup_scripts_running":2},"cat":"run",
+    "name":"cancel","ph":"i","pid":0,
     "s":"p","tid":1,"ts":1002000000}
 """
 
 # After a run and a pause.
 CANCELLED_AGAIN_DRAWN = """\
-{"args":{"running_scripts":2,"running_tests":3},"cat":"run","name":"concurrency","ph":"C","pid":0,"tid":0,"ts":1002000000}
-{"args":{"reason":"test-failure-immediate","running":3,"setup_scripts_running":2},"cat":"run","name":"cancel","ph":"i","pid":0,
+{"args":{"running_scripts":2,"running_tests":3},"cat":"run","name":"concurrency","ph":"C","pid":0,
+    "tid":0,"ts":1002000000}
+{"args":{"reason":"test-failure-immediate","running":3,"setup_scripts_running":2},"cat":"run",
+    "name":"cancel","ph":"i","pid":0,
     "s":"p","tid":1,"ts":1002000000}
 """
 PAUSED = {"kind": "run-paused", "setup-scripts-running": 0, "running": 1}
 
 # A pause as the first event.
 PAUSED_DRAWN = """\
-{"args":{"running_scripts":0,"running_tests":1},"cat":"run","name":"concurrency","ph":"C","pid":0,"tid":0,"ts":1002000000}
+{"args":{"running_scripts":0,"running_tests":1},"cat":"run","name":"concurrency","ph":"C","pid":0,
+    "tid":0,"ts":1002000000}
 {"args":{"name":"nextest run"},"cat":"","name":"process_name","ph":"M","pid":0,"tid":0,"ts":0}
 {"args":{"sort_index":0},"cat":"","name":"process_sort_index","ph":"M","pid":0,"tid":0,"ts":0}
 {"args":{"name":"run"},"cat":"","name":"thread_name","ph":"M","pid":0,"tid":1,"ts":0}
 {"args":{"sort_index":1},"cat":"","name":"thread_sort_index","ph":"M","pid":0,"tid":1,"ts":0}
-{"args":{"running":1,"setup_scripts_running":0},"cat":"run","name":"paused","ph":"i","pid":0,"s":"p","tid":1,"ts":1002000000}
+{"args":{"running":1,"setup_scripts_running":0},"cat":"run","name":"paused","ph":"i","pid":0,
+    "s":"p","tid":1,"ts":1002000000}
 """
 
 # All that is open ends before the mark.
 PAUSED_WHILE_OPEN_DRAWN = """\
-{"args":{"running_scripts":0,"running_tests":1},"cat":"run","name":"concurrency","ph":"C","pid":0,"tid":0,"ts":1002000000}
+{"args":{"running_scripts":0,"running_tests":1},"cat":"run","name":"concurrency","ph":"C","pid":0,
+    "tid":0,"ts":1002000000}
 {"cat":"run","name":"test run","ph":"E","pid":0,"tid":1,"ts":1002000000}
 {"cat":"stress","name":"sub-run","ph":"E","pid":0,"tid":2,"ts":1002000000}
 {"cat":"test","name":"t3","ph":"E","pid":3,"tid":10001,"ts":1002000000}
 {"cat":"test","name":"t1","ph":"E","pid":2,"tid":10004,"ts":1002000000}
 {"cat":"setup-script","name":"db2","ph":"E","pid":1,"tid":10000,"ts":1002000000}
-{"args":{"running":1,"setup_scripts_running":0},"cat":"run","name":"paused","ph":"i","pid":0,"s":"p","tid":1,"ts":1002000000}
+{"args":{"running":1,"setup_scripts_running":0},"cat":"run","name":"paused","ph":"i","pid":0,
+    "s":"p","tid":1,"ts":1002000000}
 """
 
 # In a pause.
 PAUSED_AGAIN_DRAWN = """\
-{"args":{"running_scripts":0,"running_tests":1},"cat":"run","name":"concurrency","ph":"C","pid":0,"tid":0,"ts":1002000000}
-{"args":{"running":1,"setup_scripts_running":0},"cat":"run","name":"paused","ph":"i","pid":0,"s":"p","tid":1,"ts":1002000000}
+{"args":{"running_scripts":0,"running_tests":1},"cat":"run","name":"concurrency","ph":"C","pid":0,
+    "tid":0,"ts":1002000000}
+{"args":{"running":1,"setup_scripts_running":0},"cat":"run","name":"paused","ph":"i","pid":0,
+    "s":"p","tid":1,"ts":1002000000}
 """
 OPEN = [start(1000, 1, 4), script(1000, 0, 2), start(1000, 3, 1), sub_run(1000), run(1000)]
 CONTINUED = {"kind": "run-continued", "setup-scripts-running": 7, "running": 6}
 
 # Outside a pause, as the first event.
 CONTINUED_DRAWN = """\
-{"args":{"running_scripts":7,"running_tests":6},"cat":"run","name":"concurrency","ph":"C","pid":0,"tid":0,"ts":1002000000}
+{"args":{"running_scripts":7,"running_tests":6},"cat":"run","name":"concurrency","ph":"C","pid":0,
+    "tid":0,"ts":1002000000}
 {"args":{"name":"nextest run"},"cat":"","name":"process_name","ph":"M","pid":0,"tid":0,"ts":0}
 {"args":{"sort_index":0},"cat":"","name":"process_sort_index","ph":"M","pid":0,"tid":0,"ts":0}
 {"args":{"name":"run"},"cat":"","name":"thread_name","ph":"M","pid":0,"tid":1,"ts":0}
 {"args":{"sort_index":1},"cat":"","name":"thread_sort_index","ph":"M","pid":0,"tid":1,"ts":0}
-{"args":{"running":6,"setup_scripts_running":7},"cat":"run","name":"continued","ph":"i","pid":0,"s":"p","tid":1,"ts":1002000000}
+{"args":{"running":6,"setup_scripts_running":7},"cat":"run","name":"continued","ph":"i","pid":0,
+    "s":"p","tid":1,"ts":1002000000}
 """
 
 # All that is open begins after the mark.
 CONTINUED_WHILE_OPEN_DRAWN = """\
-{"args":{"running_scripts":7,"running_tests":6},"cat":"run","name":"concurrency","ph":"C","pid":0,"tid":0,"ts":1002000000}
-{"args":{"running":6,"setup_scripts_running":7},"cat":"run","name":"continued","ph":"i","pid":0,"s":"p","tid":1,"ts":1002000000}
+{"args":{"running_scripts":7,"running_tests":6},"cat":"run","name":"concurrency","ph":"C","pid":0,
+    "tid":0,"ts":1002000000}
+{"args":{"running":6,"setup_scripts_running":7},"cat":"run","name":"continued","ph":"i","pid":0,
+    "s":"p","tid":1,"ts":1002000000}
 {"cat":"run","name":"test run","ph":"B","pid":0,"tid":1,"ts":1002000000}
 {"cat":"stress","name":"sub-run","ph":"B","pid":0,"tid":2,"ts":1002000000}
 {"cat":"test","name":"t3","ph":"B","pid":3,"tid":10001,"ts":1002000000}

@@ -1,10 +1,16 @@
 """Histories, and the begins and ends of each under both groupings.
 
-What is drawn is a category and a name with its process and its thread; that of a test has the name and the process that it
-has by slot beside those that it has by binary.
+What is drawn is a category and a name with its process and its thread; that of a test has the name
+and the process that it has by slot beside those that it has by binary.
 """
 
-from workshop.cases.made import (
+from __future__ import annotations
+
+from collections.abc import Sequence
+from typing import TypeAlias
+
+from workshop.cases.case import Holds
+from workshop.cases.histories import (
     cancel,
     end,
     fail,
@@ -24,17 +30,22 @@ from workshop.cases.made import (
 )
 from workshop.cases.outlines import GROUPINGS, outline, outlined, printed
 
+# What a row of begins and ends is called under each grouping; a mark is a phase, a row and a
+# second.
+Row: TypeAlias = dict[str, str]
+Mark: TypeAlias = tuple[str, Row, int]
+
 RUN = {"binary": "run:test run 0/1", "slot": "run:test run 0/1"}
 SUB_RUN = {"binary": "stress:sub-run 0/2", "slot": "stress:sub-run 0/2"}
 
 
-def of_script(index, number):
+def of_script(index: int, number: int) -> Row:
     """The setup script of this index, with the id of this number."""
     return dict.fromkeys(GROUPINGS, f"setup-script:db{number} 1/{index + 10000}")
 
 
-def of_test(number, pid, tid):
-    """The test of this number, in this process where each binary has its own, and on this thread."""
+def of_test(number: int, pid: int, tid: int) -> Row:
+    """Name the row of a test, in this process where each binary has its own, on this thread."""
     binary = "alpha::a" if number < 3 else "beta::b"
     return {"binary": f"test:t{number} {pid}/{tid}", "slot": f"test:{binary} t{number} 2/{tid}"}
 
@@ -263,7 +274,8 @@ OTHER_SPANS = [
 ]
 
 
-# The run, a setup script, and attempts of three tests on two slots, with all that is drawn of them by binary.
+# The run, a setup script, and attempts of three tests on two slots, with all that is drawn of them
+# by binary.
 ALL_SPANS = [
     run(1000),
     start(1001, 1, 0),
@@ -319,7 +331,7 @@ E run:test run 0/1 1011000000
 """
 
 
-def marks(group_by, drawn):
+def marks(group_by: str, drawn: Sequence[Mark]) -> Holds:
     """The outline of these begins and ends."""
     return outline(
         "BE", "".join(f"{phase} {of[group_by]} {secs}000000\n" for phase, of, secs in drawn)

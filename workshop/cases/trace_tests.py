@@ -1,17 +1,11 @@
-"""What tests draw: begins and ends of attempts, arrows from failed attempts to retries, and that a test is slow or skipped."""
+"""What tests draw: begins and ends of attempts, arrows from failed attempts to retries, and that a
+test is slow or skipped.
+"""
 
-from workshop.cases.made import (
-    end,
-    event,
-    fail,
-    pause,
-    retry,
-    script,
-    skip,
-    slow,
-    sorted_stats,
-    start,
-)
+from __future__ import annotations
+
+from workshop.cases.events import sorted_stats
+from workshop.cases.histories import end, event, fail, pause, retry, script, skip, slow, start
 from workshop.cases.outlines import drawn, outlined
 
 START_WITH_ALL = {
@@ -28,37 +22,49 @@ START_WITH_ALL_DRAWN = """\
 {"args":{"name":"alpha::a"},"cat":"","name":"process_name","ph":"M","pid":2,"tid":0,"ts":0}
 {"args":{"sort_index":2},"cat":"","name":"process_sort_index","ph":"M","pid":2,"tid":0,"ts":0}
 {"args":{"name":"slot-3"},"cat":"","name":"thread_name","ph":"M","pid":2,"tid":10003,"ts":0}
-{"args":{"sort_index":10003},"cat":"","name":"thread_sort_index","ph":"M","pid":2,"tid":10003,"ts":0}
-{"args":{"binary_id":"alpha::a","command_line":["a","--exact","t1"],"test_name":"t1"},"cat":"test","name":"t1","ph":"B","pid":2,
+{"args":{"sort_index":10003},"cat":"","name":"thread_sort_index","ph":"M","pid":2,"tid":10003,
+    "ts":0}
+{"args":{"binary_id":"alpha::a","command_line":["a","--exact","t1"],"test_name":"t1"},"cat":"test",
+    "name":"t1","ph":"B","pid":2,
     "tid":10003,"ts":1002000000}
-{"args":{"running_scripts":0,"running_tests":4},"cat":"run","name":"concurrency","ph":"C","pid":0,"tid":0,"ts":1002000000}
+{"args":{"running_scripts":0,"running_tests":4},"cat":"run","name":"concurrency","ph":"C","pid":0,
+    "tid":0,"ts":1002000000}
 """
 
 START_WITH_ALL_DRAWN_BY_SLOT = """\
 {"args":{"name":"tests"},"cat":"","name":"process_name","ph":"M","pid":2,"tid":0,"ts":0}
 {"args":{"sort_index":2},"cat":"","name":"process_sort_index","ph":"M","pid":2,"tid":0,"ts":0}
 {"args":{"name":"slot-3"},"cat":"","name":"thread_name","ph":"M","pid":2,"tid":10003,"ts":0}
-{"args":{"sort_index":10003},"cat":"","name":"thread_sort_index","ph":"M","pid":2,"tid":10003,"ts":0}
-{"args":{"binary_id":"alpha::a","command_line":["a","--exact","t1"],"test_name":"t1"},"cat":"test","name":"alpha::a t1","ph":"B",
+{"args":{"sort_index":10003},"cat":"","name":"thread_sort_index","ph":"M","pid":2,"tid":10003,
+    "ts":0}
+{"args":{"binary_id":"alpha::a","command_line":["a","--exact","t1"],"test_name":"t1"},"cat":"test",
+    "name":"alpha::a t1","ph":"B",
     "pid":2,"tid":10003,"ts":1002000000}
-{"args":{"running_scripts":0,"running_tests":4},"cat":"run","name":"concurrency","ph":"C","pid":0,"tid":0,"ts":1002000000}
+{"args":{"running_scripts":0,"running_tests":4},"cat":"run","name":"concurrency","ph":"C","pid":0,
+    "tid":0,"ts":1002000000}
 """
 
-# The second test of a second binary, in a pause: its process is the third, and the slot was named in the other.
+# The second test of a second binary, in a pause: its process is the third, and the slot was named
+# in the other.
 START_WITH_LEAST_DRAWN = """\
 {"args":{"name":"beta::b"},"cat":"","name":"process_name","ph":"M","pid":3,"tid":0,"ts":0}
 {"args":{"sort_index":3},"cat":"","name":"process_sort_index","ph":"M","pid":3,"tid":0,"ts":0}
 {"args":{"name":"slot-0"},"cat":"","name":"thread_name","ph":"M","pid":3,"tid":10000,"ts":0}
-{"args":{"sort_index":10000},"cat":"","name":"thread_sort_index","ph":"M","pid":3,"tid":10000,"ts":0}
-{"args":{"binary_id":"beta::b","test_name":"t4"},"cat":"test","name":"t4","ph":"B","pid":3,"tid":10000,"ts":1002000000}
+{"args":{"sort_index":10000},"cat":"","name":"thread_sort_index","ph":"M","pid":3,"tid":10000,
+    "ts":0}
+{"args":{"binary_id":"beta::b","test_name":"t4"},"cat":"test","name":"t4","ph":"B","pid":3,
+    "tid":10000,"ts":1002000000}
 {"cat":"test","name":"t4","ph":"E","pid":3,"tid":10000,"ts":1002000000}
-{"args":{"running_scripts":0,"running_tests":1},"cat":"run","name":"concurrency","ph":"C","pid":0,"tid":0,"ts":1002000000}
+{"args":{"running_scripts":0,"running_tests":1},"cat":"run","name":"concurrency","ph":"C","pid":0,
+    "tid":0,"ts":1002000000}
 """
 
 START_WITH_LEAST_DRAWN_BY_SLOT = """\
-{"args":{"binary_id":"beta::b","test_name":"t4"},"cat":"test","name":"beta::b t4","ph":"B","pid":2,"tid":10000,"ts":1002000000}
+{"args":{"binary_id":"beta::b","test_name":"t4"},"cat":"test","name":"beta::b t4","ph":"B","pid":2,
+    "tid":10000,"ts":1002000000}
 {"cat":"test","name":"beta::b t4","ph":"E","pid":2,"tid":10000,"ts":1002000000}
-{"args":{"running_scripts":0,"running_tests":1},"cat":"run","name":"concurrency","ph":"C","pid":0,"tid":0,"ts":1002000000}
+{"args":{"running_scripts":0,"running_tests":1},"cat":"run","name":"concurrency","ph":"C","pid":0,
+    "tid":0,"ts":1002000000}
 """
 IN_A_PAUSE = [start(1000, 1, 0), fail(1001, 1), pause(1001, 0)]
 
@@ -75,20 +81,25 @@ RETRY_WITH_ALL = {
 # The arrow of the first attempt, which was on slot 0, finishes on slot 3.
 RETRY_WITH_ALL_DRAWN = """\
 {"args":{"name":"slot-3"},"cat":"","name":"thread_name","ph":"M","pid":2,"tid":10003,"ts":0}
-{"args":{"sort_index":10003},"cat":"","name":"thread_sort_index","ph":"M","pid":2,"tid":10003,"ts":0}
-{"args":{"attempt":2,"binary_id":"alpha::a","command_line":["a",""],"test_name":"t1","total_attempts":4},"cat":"test","name":"t1",
+{"args":{"sort_index":10003},"cat":"","name":"thread_sort_index","ph":"M","pid":2,"tid":10003,
+    "ts":0}
+{"args":{"attempt":2,"binary_id":"alpha::a","command_line":["a",""],"test_name":"t1",
+    "total_attempts":4},"cat":"test","name":"t1",
     "ph":"B","pid":2,"tid":10003,"ts":1002000000}
 {"bp":"e","cat":"test","id":0,"name":"retry","ph":"f","pid":2,"tid":10003,"ts":1002000000}
-{"args":{"running_scripts":0,"running_tests":9},"cat":"run","name":"concurrency","ph":"C","pid":0,"tid":0,"ts":1002000000}
+{"args":{"running_scripts":0,"running_tests":9},"cat":"run","name":"concurrency","ph":"C","pid":0,
+    "tid":0,"ts":1002000000}
 """
 
 # In a pause, with an arrow.
 RETRY_IN_PAUSE_DRAWN = """\
-{"args":{"attempt":2,"binary_id":"alpha::a","test_name":"t1","total_attempts":3},"cat":"test","name":"alpha::a t1","ph":"B",
+{"args":{"attempt":2,"binary_id":"alpha::a","test_name":"t1","total_attempts":3},"cat":"test",
+    "name":"alpha::a t1","ph":"B",
     "pid":2,"tid":10000,"ts":1002000000}
 {"bp":"e","cat":"test","id":0,"name":"retry","ph":"f","pid":2,"tid":10000,"ts":1002000000}
 {"cat":"test","name":"alpha::a t1","ph":"E","pid":2,"tid":10000,"ts":1002000000}
-{"args":{"running_scripts":0,"running_tests":1},"cat":"run","name":"concurrency","ph":"C","pid":0,"tid":0,"ts":1002000000}
+{"args":{"running_scripts":0,"running_tests":1},"cat":"run","name":"concurrency","ph":"C","pid":0,
+    "tid":0,"ts":1002000000}
 """
 
 # The first event, without an arrow.
@@ -96,10 +107,13 @@ RETRY_WITH_LEAST_DRAWN = """\
 {"args":{"name":"alpha::a"},"cat":"","name":"process_name","ph":"M","pid":2,"tid":0,"ts":0}
 {"args":{"sort_index":2},"cat":"","name":"process_sort_index","ph":"M","pid":2,"tid":0,"ts":0}
 {"args":{"name":"slot-0"},"cat":"","name":"thread_name","ph":"M","pid":2,"tid":10000,"ts":0}
-{"args":{"sort_index":10000},"cat":"","name":"thread_sort_index","ph":"M","pid":2,"tid":10000,"ts":0}
-{"args":{"attempt":2,"binary_id":"alpha::a","test_name":"t1","total_attempts":3},"cat":"test","name":"t1","ph":"B","pid":2,
+{"args":{"sort_index":10000},"cat":"","name":"thread_sort_index","ph":"M","pid":2,"tid":10000,
+    "ts":0}
+{"args":{"attempt":2,"binary_id":"alpha::a","test_name":"t1","total_attempts":3},"cat":"test",
+    "name":"t1","ph":"B","pid":2,
     "tid":10000,"ts":1002000000}
-{"args":{"running_scripts":0,"running_tests":1},"cat":"run","name":"concurrency","ph":"C","pid":0,"tid":0,"ts":1002000000}
+{"args":{"running_scripts":0,"running_tests":1},"cat":"run","name":"concurrency","ph":"C","pid":0,
+    "tid":0,"ts":1002000000}
 """
 
 SLOW_WITH_ALL = {
@@ -112,12 +126,15 @@ SLOW_WITH_ALL = {
 }
 
 SLOW_WITH_ALL_DRAWN = """\
-{"args":{"attempt":2,"binary_id":"beta::b","elapsed":{"nanos":7,"secs":60},"stress_index":{"current":3,"total":null},
-    "test_name":"t3","will_terminate":true},"cat":"test","name":"slow","ph":"i","pid":3,"s":"t","tid":10005,"ts":1002000000}
+{"args":{"attempt":2,"binary_id":"beta::b","elapsed":{"nanos":7,"secs":60},
+    "stress_index":{"current":3,"total":null},
+    "test_name":"t3","will_terminate":true},"cat":"test","name":"slow","ph":"i","pid":3,"s":"t",
+    "tid":10005,"ts":1002000000}
 """
 
 SLOW_WITH_LEAST_DRAWN = """\
-{"args":{"attempt":1,"binary_id":"alpha::a","elapsed":{"nanos":0,"secs":1},"test_name":"t1","will_terminate":false},"cat":"test",
+{"args":{"attempt":1,"binary_id":"alpha::a","elapsed":{"nanos":0,"secs":1},"test_name":"t1",
+    "will_terminate":false},"cat":"test",
     "name":"slow","ph":"i","pid":2,"s":"t","tid":10004,"ts":1002000000}
 """
 TWO_IN_A_PAUSE = [start(1000, 1, 4), start(1001, 3, 5), pause(1001, 0)]
@@ -164,22 +181,29 @@ FAIL_WITH_ALL = {
 
 FAIL_WITH_ALL_DRAWN = """\
 {"args":{"attempt":1,"binary_id":"alpha::a","delay_before_next_attempt":{"nanos":0,"secs":4},
-    "delay_before_start":{"nanos":6,"secs":0},"error":{"description":"thread panicked","short_message":"exit code 101"},
-    "is_slow":true,"result":{"fail":{"failure":{"abort":{"name":"SIGSEGV","signal":11}},"leaked":true}},
-    "stress_index":{"current":3,"total":null},"test_group":"heavy","test_name":"t1","time_taken":{"nanos":5,"secs":2},
+    "delay_before_start":{"nanos":6,"secs":0},"error":{"description":"thread panicked",
+    "short_message":"exit code 101"},
+    "is_slow":true,"result":{"fail":{"failure":{"abort":{"name":"SIGSEGV","signal":11}},
+    "leaked":true}},
+    "stress_index":{"current":3,"total":null},"test_group":"heavy","test_name":"t1",
+    "time_taken":{"nanos":5,"secs":2},
     "total_attempts":3},"cat":"test","name":"t1","ph":"E","pid":2,"tid":10003,"ts":1002000000}
 {"cat":"test","id":0,"name":"retry","ph":"s","pid":2,"tid":10003,"ts":1002000000}
-{"args":{"running_scripts":1,"running_tests":8},"cat":"run","name":"concurrency","ph":"C","pid":0,"tid":0,"ts":1002000000}
+{"args":{"running_scripts":1,"running_tests":8},"cat":"run","name":"concurrency","ph":"C","pid":0,
+    "tid":0,"ts":1002000000}
 """
 
 # In a pause, after another test failed.
 FAIL_WITH_LEAST_DRAWN = """\
 {"cat":"test","name":"beta::b t3","ph":"B","pid":2,"tid":10005,"ts":1002000000}
-{"args":{"attempt":1,"binary_id":"beta::b","is_slow":false,"result":"exec-fail","test_group":"@global","test_name":"t3",
-    "time_taken":{"nanos":0,"secs":1},"total_attempts":3},"cat":"test","name":"beta::b t3","ph":"E","pid":2,"tid":10005,
+{"args":{"attempt":1,"binary_id":"beta::b","is_slow":false,"result":"exec-fail",
+    "test_group":"@global","test_name":"t3",
+    "time_taken":{"nanos":0,"secs":1},"total_attempts":3},"cat":"test","name":"beta::b t3",
+    "ph":"E","pid":2,"tid":10005,
     "ts":1002000000}
 {"cat":"test","id":1,"name":"retry","ph":"s","pid":2,"tid":10005,"ts":1002000000}
-{"args":{"running_scripts":0,"running_tests":0},"cat":"run","name":"concurrency","ph":"C","pid":0,"tid":0,"ts":1002000000}
+{"args":{"running_scripts":0,"running_tests":0},"cat":"run","name":"concurrency","ph":"C","pid":0,
+    "tid":0,"ts":1002000000}
 """
 FAILED_AND_PAUSED = [start(1000, 1, 0), fail(1000, 1), start(1000, 3, 5), pause(1001, 0)]
 
@@ -238,12 +262,17 @@ FINISH_WITH_ALL = {
 
 FINISH_WITH_ALL_DRAWN = """\
 {"args":{"attempt":2,"binary_id":"alpha::a","delay_before_start":{"nanos":0,"secs":1},
-    "error":{"description":"test passed on attempt 2/3 but is configured to fail when flaky","short_message":"flaky failure"},
-    "flaky_result":"fail","is_slow":true,"result":{"leak":"pass"},"stress_index":{"current":3,"total":5},"test_group":"heavy",
-    "test_name":"t1","time_taken":{"nanos":5,"secs":2},"total_attempts":3},"cat":"test","name":"t1","ph":"E","pid":2,"tid":10003,
+    "error":{"description":"test passed on attempt 2/3 but is configured to fail when flaky",
+    "short_message":"flaky failure"},
+    "flaky_result":"fail","is_slow":true,"result":{"leak":"pass"},"stress_index":{"current":3,
+    "total":5},"test_group":"heavy",
+    "test_name":"t1","time_taken":{"nanos":5,"secs":2},"total_attempts":3},"cat":"test",
+    "name":"t1","ph":"E","pid":2,"tid":10003,
     "ts":1002000000}
-{"args":{"running_scripts":0,"running_tests":8},"cat":"run","name":"concurrency","ph":"C","pid":0,"tid":0,"ts":1002000000}
-{"args":{"failed":9,"flaky":6,"passed":5},"cat":"run","name":"test results","ph":"C","pid":0,"tid":0,"ts":1002000000}
+{"args":{"running_scripts":0,"running_tests":8},"cat":"run","name":"concurrency","ph":"C","pid":0,
+    "tid":0,"ts":1002000000}
+{"args":{"failed":9,"flaky":6,"passed":5},"cat":"run","name":"test results","ph":"C","pid":0,
+    "tid":0,"ts":1002000000}
 """
 
 # The last of two attempts was too slow, so that a flaky result doesn't count.
@@ -284,28 +313,40 @@ FINISH_WITH_ERROR = {
 }
 
 FINISH_WITH_ERROR_DRAWN = """\
-{"args":{"attempt":2,"binary_id":"alpha::a","error":{"description":"","short_message":"timed out"},"is_slow":false,
-    "result":{"timeout":"fail"},"test_group":"@global","test_name":"t1","time_taken":{"nanos":0,"secs":2},"total_attempts":2},
+{"args":{"attempt":2,"binary_id":"alpha::a","error":{"description":"","short_message":"timed out"},
+    "is_slow":false,
+    "result":{"timeout":"fail"},"test_group":"@global","test_name":"t1","time_taken":{"nanos":0,
+    "secs":2},"total_attempts":2},
     "cat":"test","name":"t1","ph":"E","pid":2,"tid":10000,"ts":1002000000}
-{"args":{"running_scripts":0,"running_tests":0},"cat":"run","name":"concurrency","ph":"C","pid":0,"tid":0,"ts":1002000000}
-{"args":{"failed":1,"flaky":0,"passed":0},"cat":"run","name":"test results","ph":"C","pid":0,"tid":0,"ts":1002000000}
+{"args":{"running_scripts":0,"running_tests":0},"cat":"run","name":"concurrency","ph":"C","pid":0,
+    "tid":0,"ts":1002000000}
+{"args":{"failed":1,"flaky":0,"passed":0},"cat":"run","name":"test results","ph":"C","pid":0,
+    "tid":0,"ts":1002000000}
 """
 
 # In a pause, with four failed tests beside the one that could not be executed.
 FINISH_WITH_LEAST_DRAWN = """\
 {"cat":"test","name":"t1","ph":"B","pid":2,"tid":10000,"ts":1002000000}
-{"args":{"attempt":1,"binary_id":"alpha::a","is_slow":false,"result":"pass","test_group":"@global","test_name":"t1",
-    "time_taken":{"nanos":0,"secs":1},"total_attempts":1},"cat":"test","name":"t1","ph":"E","pid":2,"tid":10000,"ts":1002000000}
-{"args":{"running_scripts":0,"running_tests":0},"cat":"run","name":"concurrency","ph":"C","pid":0,"tid":0,"ts":1002000000}
-{"args":{"failed":5,"flaky":0,"passed":0},"cat":"run","name":"test results","ph":"C","pid":0,"tid":0,"ts":1002000000}
+{"args":{"attempt":1,"binary_id":"alpha::a","is_slow":false,"result":"pass","test_group":"@global",
+    "test_name":"t1",
+    "time_taken":{"nanos":0,"secs":1},"total_attempts":1},"cat":"test","name":"t1","ph":"E",
+    "pid":2,"tid":10000,"ts":1002000000}
+{"args":{"running_scripts":0,"running_tests":0},"cat":"run","name":"concurrency","ph":"C","pid":0,
+    "tid":0,"ts":1002000000}
+{"args":{"failed":5,"flaky":0,"passed":0},"cat":"run","name":"test results","ph":"C","pid":0,
+    "tid":0,"ts":1002000000}
 """
 
 # The same end, after a retry on slot 1 that is of no group.
 GROUP_OF_THE_RETRY = """\
-{"args":{"attempt":1,"binary_id":"alpha::a","is_slow":false,"result":"pass","test_group":"@global","test_name":"t1",
-    "time_taken":{"nanos":0,"secs":1},"total_attempts":1},"cat":"test","name":"t1","ph":"E","pid":2,"tid":10001,"ts":1002000000}
-{"args":{"running_scripts":0,"running_tests":0},"cat":"run","name":"concurrency","ph":"C","pid":0,"tid":0,"ts":1002000000}
-{"args":{"failed":1,"flaky":0,"passed":0},"cat":"run","name":"test results","ph":"C","pid":0,"tid":0,"ts":1002000000}
+{"args":{"attempt":1,"binary_id":"alpha::a","is_slow":false,"result":"pass","test_group":"@global",
+    "test_name":"t1",
+    "time_taken":{"nanos":0,"secs":1},"total_attempts":1},"cat":"test","name":"t1","ph":"E",
+    "pid":2,"tid":10001,"ts":1002000000}
+{"args":{"running_scripts":0,"running_tests":0},"cat":"run","name":"concurrency","ph":"C","pid":0,
+    "tid":0,"ts":1002000000}
+{"args":{"failed":1,"flaky":0,"passed":0},"cat":"run","name":"test results","ph":"C","pid":0,
+    "tid":0,"ts":1002000000}
 """
 
 # A retry in the group.
@@ -320,10 +361,14 @@ HEAVY_RETRY = {
 
 # The end of an attempt that is of the group.
 GROUP_OF_THE_START = """\
-{"args":{"attempt":1,"binary_id":"alpha::a","is_slow":false,"result":"pass","test_group":"heavy","test_name":"t1",
-    "time_taken":{"nanos":0,"secs":1},"total_attempts":1},"cat":"test","name":"t1","ph":"E","pid":2,"tid":10003,"ts":1002000000}
-{"args":{"running_scripts":0,"running_tests":0},"cat":"run","name":"concurrency","ph":"C","pid":0,"tid":0,"ts":1002000000}
-{"args":{"failed":1,"flaky":0,"passed":0},"cat":"run","name":"test results","ph":"C","pid":0,"tid":0,"ts":1002000000}
+{"args":{"attempt":1,"binary_id":"alpha::a","is_slow":false,"result":"pass","test_group":"heavy",
+    "test_name":"t1",
+    "time_taken":{"nanos":0,"secs":1},"total_attempts":1},"cat":"test","name":"t1","ph":"E",
+    "pid":2,"tid":10003,"ts":1002000000}
+{"args":{"running_scripts":0,"running_tests":0},"cat":"run","name":"concurrency","ph":"C","pid":0,
+    "tid":0,"ts":1002000000}
+{"args":{"failed":1,"flaky":0,"passed":0},"cat":"run","name":"test results","ph":"C","pid":0,
+    "tid":0,"ts":1002000000}
 """
 TO_NO_GROUP = [event(1000, HEAVY_START), fail(1001, 1), retry(1001, 1, 1)]
 TO_THE_GROUP = [retry(1000, 1, 1), fail(1000, 1), event(1000, HEAVY_START), start(1001, 2, 0)]
@@ -472,7 +517,8 @@ CASES = [
         [*TWO_TESTS, retry(1007, 2, 5), fail(1008, 1)],
         TWO_TESTS_DRAWN_ON,
     ),
-    # It is pending through another start of its test, the end of that attempt, and those of other tests.
+    # It is pending through another start of its test, the end of that attempt, and those of other
+    # tests.
     *outlined("arrows: pending", "sf", PENDING, PENDING_DRAWN),
     *outlined("arrows: pending until it finishes", "sf", FINISHED, FINISHED_DRAWN),
     *outlined("arrows: each test has its own, and another process", "sf", OWN, OWN_DRAWN),
@@ -482,6 +528,7 @@ CASES = [
         [retry(1000, 1, 0), end(1001, 1, 0), start(1002, 1, 0)],
         "",
     ),
-    # An arrow finishes between the begin and the end of a slice in a pause, and starts after the end of one.
+    # An arrow finishes between the begin and the end of a slice in a pause, and starts after the
+    # end of one.
     *outlined("arrows: in a pause", "BEsf", ARROW_IN_A_PAUSE, ARROW_IN_A_PAUSE_DRAWN),
 ]

@@ -1,7 +1,14 @@
-"""Whole traces, by their texts and by their outlines: in one line and over several, by binary and by slot."""
+"""Whole traces, by their texts and by their outlines: in one line and over several, by binary and
+by slot.
+"""
 
-from workshop.cases.case import SOME, Case, of_length
-from workshop.cases.made import (
+from __future__ import annotations
+
+from collections.abc import Sequence
+
+from workshop.cases.case import SOME, Case, Wanted, of_length
+from workshop.cases.histories import (
+    Line,
     end,
     event,
     fail,
@@ -115,7 +122,8 @@ B run:test run 0/1 1000000000
 E run:test run 0/1 1001000000
 """
 
-# A failed attempt, a pause, a continuation and a retry at one instant: nothing is open in the pause.
+# A failed attempt, a pause, a continuation and a retry at one instant: nothing is open in the
+# pause.
 RETRIED_AT_ONCE = [
     start(1000, 1, 0),
     fail(1001, 1),
@@ -189,34 +197,45 @@ PAUSED = {"kind": "run-paused", "setup-scripts-running": 0, "running": 1}
 
 ONE_PAUSE = """\
 {"displayTimeUnit":"ms","otherData":{"nextest_version":"0.9.111"},"traceEvents":[
-{"args":{"running_scripts":0,"running_tests":1},"cat":"run","name":"concurrency","ph":"C","pid":0,"tid":0,"ts":1002000000},
+{"args":{"running_scripts":0,"running_tests":1},"cat":"run","name":"concurrency","ph":"C","pid":0,
+    "tid":0,"ts":1002000000},
 {"args":{"name":"nextest run"},"cat":"","name":"process_name","ph":"M","pid":0,"tid":0,"ts":0},
 {"args":{"sort_index":0},"cat":"","name":"process_sort_index","ph":"M","pid":0,"tid":0,"ts":0},
 {"args":{"name":"run"},"cat":"","name":"thread_name","ph":"M","pid":0,"tid":1,"ts":0},
 {"args":{"sort_index":1},"cat":"","name":"thread_sort_index","ph":"M","pid":0,"tid":1,"ts":0},
-{"args":{"running":1,"setup_scripts_running":0},"cat":"run","name":"paused","ph":"i","pid":0,"s":"p","tid":1,"ts":1002000000}
+{"args":{"running":1,"setup_scripts_running":0},"cat":"run","name":"paused","ph":"i","pid":0,
+    "s":"p","tid":1,"ts":1002000000}
 ]}"""
 ONE_TEST = [run(-1, 999999999), start(0, 1, 0), end(1002, 1, 0)]
 
 ONE_TEST_BY_BINARY = """\
 {"displayTimeUnit":"ms","otherData":{"nextest_version":"0.9.111","profile_name":"default",
     "run_id":"550e8400-e29b-41d4-a716-446655440000"},"traceEvents":[
-{"args":{"name":"nextest run (default)"},"cat":"","name":"process_name","ph":"M","pid":0,"tid":0,"ts":0},
+{"args":{"name":"nextest run (default)"},"cat":"","name":"process_name","ph":"M","pid":0,"tid":0,
+    "ts":0},
 {"args":{"sort_index":0},"cat":"","name":"process_sort_index","ph":"M","pid":0,"tid":0,"ts":0},
 {"args":{"name":"run"},"cat":"","name":"thread_name","ph":"M","pid":0,"tid":1,"ts":0},
 {"args":{"sort_index":1},"cat":"","name":"thread_sort_index","ph":"M","pid":0,"tid":1,"ts":0},
-{"args":{"cli_args":[],"nextest_version":"0.9.111","profile":"default","run_id":"550e8400-e29b-41d4-a716-446655440000"},
+{"args":{"cli_args":[],"nextest_version":"0.9.111","profile":"default",
+    "run_id":"550e8400-e29b-41d4-a716-446655440000"},
     "cat":"run","name":"test run","ph":"B","pid":0,"tid":1,"ts":-1},
 {"args":{"name":"alpha::a"},"cat":"","name":"process_name","ph":"M","pid":2,"tid":0,"ts":0},
 {"args":{"sort_index":2},"cat":"","name":"process_sort_index","ph":"M","pid":2,"tid":0,"ts":0},
 {"args":{"name":"slot-0"},"cat":"","name":"thread_name","ph":"M","pid":2,"tid":10000,"ts":0},
-{"args":{"sort_index":10000},"cat":"","name":"thread_sort_index","ph":"M","pid":2,"tid":10000,"ts":0},
-{"args":{"binary_id":"alpha::a","test_name":"t1"},"cat":"test","name":"t1","ph":"B","pid":2,"tid":10000,"ts":0},
-{"args":{"running_scripts":0,"running_tests":1},"cat":"run","name":"concurrency","ph":"C","pid":0,"tid":0,"ts":0},
-{"args":{"attempt":1,"binary_id":"alpha::a","is_slow":false,"result":"pass","test_group":"@global","test_name":"t1",
-    "time_taken":{"nanos":0,"secs":1},"total_attempts":1},"cat":"test","name":"t1","ph":"E","pid":2,"tid":10000,"ts":1002000000},
-{"args":{"running_scripts":0,"running_tests":0},"cat":"run","name":"concurrency","ph":"C","pid":0,"tid":0,"ts":1002000000},
-{"args":{"failed":1,"flaky":0,"passed":0},"cat":"run","name":"test results","ph":"C","pid":0,"tid":0,"ts":1002000000}
+{"args":{"sort_index":10000},"cat":"","name":"thread_sort_index","ph":"M","pid":2,"tid":10000,
+    "ts":0},
+{"args":{"binary_id":"alpha::a","test_name":"t1"},"cat":"test","name":"t1","ph":"B","pid":2,
+    "tid":10000,"ts":0},
+{"args":{"running_scripts":0,"running_tests":1},"cat":"run","name":"concurrency","ph":"C","pid":0,
+    "tid":0,"ts":0},
+{"args":{"attempt":1,"binary_id":"alpha::a","is_slow":false,"result":"pass","test_group":"@global",
+    "test_name":"t1",
+    "time_taken":{"nanos":0,"secs":1},"total_attempts":1},"cat":"test","name":"t1","ph":"E",
+    "pid":2,"tid":10000,"ts":1002000000},
+{"args":{"running_scripts":0,"running_tests":0},"cat":"run","name":"concurrency","ph":"C","pid":0,
+    "tid":0,"ts":1002000000},
+{"args":{"failed":1,"flaky":0,"passed":0},"cat":"run","name":"test results","ph":"C","pid":0,
+    "tid":0,"ts":1002000000}
 ]}"""
 
 ONE_TEST_BY_SLOT = replaced(ONE_TEST_BY_BINARY, '{"name":"alpha::a"}', '{"name":"tests"}').replace(
@@ -315,14 +334,16 @@ ONE_RUN_IN_LINES = rb"""{
 
 # The trace of a test on the last slot that has a row.
 LAST_ROW = (
-    b'{"displayTimeUnit":"ms","otherData":{"nextest_version":"0.9.111"},"traceEvents":[{"args":{"name":"alpha::a"},"cat":"",'
-    b'"name":"process_name","ph":"M","pid":2,"tid":0,"ts":0},{"args":{"sort_index":2},"cat":"","name":"process_sort_index",'
-    b'"ph":"M","pid":2,"tid":0,"ts":0},{"args":{"name":"slot-18446744073709541615"},"cat":"","name":"thread_name","ph":"M",'
-    b'"pid":2,"tid":18446744073709551615,"ts":0},{"args":{"sort_index":18446744073709551615},"cat":"",'
-    b'"name":"thread_sort_index","ph":"M","pid":2,"tid":18446744073709551615,"ts":0},{"args":{"binary_id":"alpha::a",'
-    b'"test_name":"t1"},"cat":"test","name":"t1","ph":"B","pid":2,"tid":18446744073709551615,"ts":1001000000},'
-    b'{"args":{"running_scripts":0,"running_tests":1},"cat":"run","name":"concurrency","ph":"C","pid":0,"tid":0,'
-    b'"ts":1001000000}]}'
+    b'{"displayTimeUnit":"ms","otherData":{"nextest_version":"0.9.111"},'
+    b'"traceEvents":[{"args":{"name":"alpha::a"},"cat":"","name":"process_name","ph":"M","pid":2,'
+    b'"tid":0,"ts":0},{"args":{"sort_index":2},"cat":"","name":"process_sort_index","ph":"M",'
+    b'"pid":2,"tid":0,"ts":0},{"args":{"name":"slot-18446744073709541615"},"cat":"",'
+    b'"name":"thread_name","ph":"M","pid":2,"tid":18446744073709551615,"ts":0},'
+    b'{"args":{"sort_index":18446744073709551615},"cat":"","name":"thread_sort_index","ph":"M",'
+    b'"pid":2,"tid":18446744073709551615,"ts":0},{"args":{"binary_id":"alpha::a","test_name":"t1"},'
+    b'"cat":"test","name":"t1","ph":"B","pid":2,"tid":18446744073709551615,"ts":1001000000},'
+    b'{"args":{"running_scripts":0,"running_tests":1},"cat":"run","name":"concurrency","ph":"C",'
+    b'"pid":0,"tid":0,"ts":1001000000}]}'
 )
 
 LAST_SLOT = replaced(TEST_STARTED, b'"global-slot":0', b'"global-slot":18446744073709541615')
@@ -339,12 +360,12 @@ DRAWN = [
 ]
 
 
-def one_line(text):
+def one_line(text: str) -> bytes:
     """A text over several lines as one, where a line may begin with four blanks."""
     return "".join(line.removeprefix("    ") for line in text.split("\n")).encode()
 
 
-def over_lines(name, lines, out):
+def over_lines(name: str, lines: Sequence[Line], out: Wanted) -> list[Case]:
     """The cases of events that have this trace under both groupings."""
     return [
         case

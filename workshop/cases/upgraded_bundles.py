@@ -1,6 +1,12 @@
 """Bundles that are upgraded: what is written of them, and why others are refused."""
 
-from workshop.cases.case import Case, Recorded
+from __future__ import annotations
+
+from collections.abc import Iterator, Sequence
+from typing import NamedTuple
+
+from rezovamy_runs.bundles.container import container
+from workshop.cases.case import Case, Entry, Recorded, Wanted, Words
 from workshop.cases.made import bundle, held, log_of
 from workshop.cases.recorded_bundles import (
     FAILED_LINE,
@@ -14,8 +20,8 @@ from workshop.cases.recorded_bundles import (
 from workshop.cases.texts import (
     BUILD_SCOPE,
     HEAD,
-    LOG_LINES,
     LOGGED_PAUSE,
+    LOG_LINES,
     MANIFEST,
     METADATA,
     NEWER_STORE,
@@ -23,7 +29,6 @@ from workshop.cases.texts import (
     RUN_PAUSED,
     SMALL_SESSION,
     replaced,
-    session_of,
 )
 from workshop.cases.whole_bundles import (
     FIRST,
@@ -38,7 +43,6 @@ from workshop.cases.whole_bundles import (
     older,
     whole,
 )
-from rezovamy_runs.bundles.container import container
 
 STORE = container(METADATA)
 MANIFEST_OF_PAUSE = manifest_of(LOGGED_PAUSE, STORE)
@@ -58,11 +62,11 @@ MISSING = "Read FileNotFound file_name="
 NO_ITEM = "Read DeserializeMetadata file_name="
 
 
-def upgraded(name, given, written, options=()):
+def upgraded(name: str, given: bytes | Recorded, written: Wanted, options: Words = ()) -> Case:
     return Case(f"upgrade {name}", ("upgrade", "b", *options), given, file=written)
 
 
-def refused(name, given, status, line, options=()):
+def refused(name: str, given: bytes, status: int, line: str, options: Words = ()) -> Case:
     return Case(
         f"upgrade {name}",
         ("upgrade", "b", *options),
@@ -72,15 +76,16 @@ def refused(name, given, status, line, options=()):
     )
 
 
-def with_part(name, content):
+def with_part(name: bytes, content: bytes) -> list[Entry]:
     """The metadata, with other bytes in the entry of this name."""
     return [(entry, content if entry == name else kept) for entry, kept in METADATA]
 
 
 # Metadata in another spelling, in another order, with a rerun's.
 RERUN_GIVEN = (
-    b'{ "parent-run-id":"650E8400-E29B-41D4-A716-446655440000","x":1,"root-info":{"run-id":'
-    b'"750e8400-e29b-41d4-a716-446655440000","build-scope":{"build-kind":"cargo","scope":{}}},"test-suites":[]}'
+    b'{ "parent-run-id":"650E8400-E29B-41D4-A716-446655440000","x":1,'
+    b'"root-info":{"run-id":"750e8400-e29b-41d4-a716-446655440000",'
+    b'"build-scope":{"build-kind":"cargo","scope":{}}},"test-suites":[]}'
 )
 RERUN_WRITTEN = (
     b'{"parent-run-id":"650e8400-e29b-41d4-a716-446655440000","root-info":{"build-scope":'
@@ -102,7 +107,8 @@ WRITTEN = [
     (b"meta/record-opts.json", b'{"run-mode":"test"}'),
 ]
 
-# A manifest with other members, in another order, and sizes that are not those of its parts; and one that lacks what has a default.
+# A manifest with other members, in another order, and sizes that are not those of its parts; and
+# one that lacks what has a default.
 SPELLED_MANIFEST = replaced(
     replaced(
         MANIFEST,
@@ -130,7 +136,7 @@ LOGS = {
 # Stores as they are given, and as they are written.
 NAMED = (b"out/0000000000000000-stdout", b"abc")
 NAMED_LOG = replaced(ONE_TEST_LOG, b"ba7816bf8f01cfea", b"0000000000000000")
-STORES = {
+STORES: dict[str, tuple[bytes, list[Entry], tuple[bytes, list[Entry], list[Entry]]]] = {
     "metadata in another order and spelling": (LOGGED_PAUSE, SPELLED, (LOGGED_PAUSE, [], WRITTEN)),
     "metadata between outputs": (
         ONE_TEST_LOG,
@@ -140,36 +146,63 @@ STORES = {
     "an output under another name": (NAMED_LOG, [*METADATA, NAMED], (NAMED_LOG, [NAMED], METADATA)),
 }
 
-# Bundles that aren't opened, and the status and the line of each.
+
+class Unopened(NamedTuple):
+    """Why a bundle isn't opened, the bundle, the status and the line."""
+
+    name: str
+    bundle: bytes
+    status: int
+    line: str
+
+
+class Unread(NamedTuple):
+    """A log and a store of which a part isn't read, and the line and the status of the first."""
+
+    name: str
+    log: bytes
+    entries: list[Entry]
+    line: str
+    status: int = 12
+
+
 UNOPENED = [
-    ("no bytes", b"", 12, "ReadArchive fault=BadMagic"),
-    (
+    Unopened("no bytes", b"", 12, "ReadArchive fault=BadMagic"),
+    Unopened(
         "a container that is cut off",
         PAUSED[:-1],
         12,
         f"ReadArchive fault=Truncated at={len(PAUSED) - 1}",
     ),
-    ("a container without files", b"nxtcont1\0", 12, "NotAWrapperArchive file_count=0 zip_count=0"),
-    (
+    Unopened(
+        "a container without files",
+        b"nxtcont1\0",
+        12,
+        "NotAWrapperArchive file_count=0 zip_count=0",
+    ),
+    Unopened(
         "a container without a manifest",
         held((b"x.zip", b"")),
         12,
         "NotAWrapperArchive file_count=1 zip_count=1",
     ),
-    ("a manifest that is none", bundle(LOGGED_PAUSE, STORE, b"{}"), 12, "ParseManifest"),
-    (
+    Unopened("a manifest that is none", bundle(LOGGED_PAUSE, STORE, b"{}"), 12, "ParseManifest"),
+    Unopened(
         "a newer format",
         bundle(LOGGED_PAUSE, STORE, replaced(MANIFEST, FORMAT_1_1, FORMAT_1_2)),
         12,
-        "UnsupportedFormatVersion found=1.2 supported=1.1 incompatibility=MinorTooNew recording_minor=2 supported_minor=1",
+        (
+            "UnsupportedFormatVersion found=1.2 supported=1.1 incompatibility=MinorTooNew "
+            "recording_minor=2 supported_minor=1"
+        ),
     ),
-    (
+    Unopened(
         "a newer store",
         bundle(LOGGED_PAUSE, STORE, replaced(MANIFEST, STORE_3_1, STORE_3_2)),
         12,
         NEWER_STORE.decode().rstrip(),
     ),
-    (
+    Unopened(
         "an older store",
         bundle(
             LOGGED_PAUSE,
@@ -179,17 +212,17 @@ UNOPENED = [
         12,
         OLDER_STORE.decode().rstrip(),
     ),
-    ("no log", bundle(None, STORE), 12, "MissingFile file_name=run.log.zst"),
-    ("no store", bundle(LOGGED_PAUSE, None), 12, "MissingFile file_name=store.zip"),
-    ("no log and no store", bundle(None, None), 12, "MissingFile file_name=run.log.zst"),
-    ("a store that is none", bundle(LOGGED_PAUSE, b"PK"), 12, "ReadArchive fault=BadMagic"),
-    (
+    Unopened("no log", bundle(None, STORE), 12, "MissingFile file_name=run.log.zst"),
+    Unopened("no store", bundle(LOGGED_PAUSE, None), 12, "MissingFile file_name=store.zip"),
+    Unopened("no log and no store", bundle(None, None), 12, "MissingFile file_name=run.log.zst"),
+    Unopened("a store that is none", bundle(LOGGED_PAUSE, b"PK"), 12, "ReadArchive fault=BadMagic"),
+    Unopened(
         "a store that is cut off",
         bundle(LOGGED_PAUSE, STORE[:-1]),
         12,
         f"ReadArchive fault=Truncated at={len(STORE) - 1}",
     ),
-    (
+    Unopened(
         "another entry beside a store that is none",
         container([*PARTS[:2], (b"store.zip", b"PK"), NOTES]),
         12,
@@ -219,101 +252,88 @@ FAULTY = log_of(b"{}")
 NO_TEXT = b"\xff\n"
 BAD_SCOPE = (b"meta/build-scope.json", b"{}")
 
-# Logs and stores of which a part isn't read, and the status and the line of the first of these.
+# Logs and stores of which a part isn't read.
 UNREAD = [
-    ("no build scope", LOGGED_PAUSE, METADATA[1:], 12, f"{MISSING}meta/build-scope.json"),
-    (
-        "no test list",
-        LOGGED_PAUSE,
-        [METADATA[0], *METADATA[2:]],
-        12,
-        f"{MISSING}meta/test-list.json",
+    Unread("no build scope", LOGGED_PAUSE, METADATA[1:], f"{MISSING}meta/build-scope.json"),
+    Unread(
+        "no test list", LOGGED_PAUSE, [METADATA[0], *METADATA[2:]], f"{MISSING}meta/test-list.json"
     ),
-    (
+    Unread(
         "no cargo metadata",
         LOGGED_PAUSE,
         [*METADATA[:2], METADATA[3]],
-        12,
         f"{MISSING}meta/cargo-metadata.json",
     ),
-    ("no record options", LOGGED_PAUSE, METADATA[:3], 12, f"{MISSING}meta/record-opts.json"),
-    (
+    Unread("no record options", LOGGED_PAUSE, METADATA[:3], f"{MISSING}meta/record-opts.json"),
+    Unread(
         "a build scope that is none",
         LOGGED_PAUSE,
         [BAD_SCOPE, *METADATA[1:]],
-        12,
         f"{NO_ITEM}meta/build-scope.json",
     ),
-    (
+    Unread(
         "rerun info that is none",
         LOGGED_PAUSE,
         [*METADATA, (b"meta/rerun-info.json", b"{}")],
-        12,
         f"{NO_ITEM}meta/rerun-info.json",
     ),
-    (
+    Unread(
         "a test list that is none",
         LOGGED_PAUSE,
         with_part(b"meta/test-list.json", b"[]"),
-        12,
         f"{NO_ITEM}meta/test-list.json",
     ),
-    (
+    Unread(
         "cargo metadata that is no text",
         LOGGED_PAUSE,
         with_part(b"meta/cargo-metadata.json", b"\xff"),
-        12,
         "Read NotUtf8 file_name=meta/cargo-metadata.json",
     ),
-    (
+    Unread(
         "record options that are none",
         LOGGED_PAUSE,
         with_part(b"meta/record-opts.json", b"{}"),
-        12,
         f"{NO_ITEM}meta/record-opts.json",
     ),
-    (
+    Unread(
         "a line that is no event",
         LOGGED_PAUSE + b"\n" + FAULTY,
         METADATA,
-        5,
         "Read ParseEvent line_number=3",
+        5,
     ),
-    (
+    Unread(
         "a line that is no text",
         LOGGED_PAUSE + NO_TEXT + FAULTY,
         METADATA,
-        5,
         "Read ReadRunLog line_number=2",
+        5,
     ),
-    ("no output", TWO_SLOTS_LOG, METADATA, 12, f"{MISSING}{FIRST[0].decode()}"),
-    ("no second output", TWO_SLOTS_LOG, [*METADATA, FIRST], 12, f"{MISSING}{SECOND[0].decode()}"),
-    (
+    Unread("no output", TWO_SLOTS_LOG, METADATA, f"{MISSING}{FIRST[0].decode()}"),
+    Unread("no second output", TWO_SLOTS_LOG, [*METADATA, FIRST], f"{MISSING}{SECOND[0].decode()}"),
+    Unread(
         "rerun info that is none before a faulty line",
         FAULTY,
         [*METADATA, (b"meta/rerun-info.json", b"{}")],
-        12,
         f"{NO_ITEM}meta/rerun-info.json",
     ),
-    (
+    Unread(
         "no record options before a faulty line",
         FAULTY,
         METADATA[:3],
-        12,
         f"{MISSING}meta/record-opts.json",
     ),
-    (
+    Unread(
         "a faulty line before a missing output",
         TWO_SLOTS_LOG + FAULTY,
         METADATA,
-        5,
         "Read ParseEvent line_number=15",
+        5,
     ),
-    (
+    Unread(
         "a missing output before a foreign entry",
         TWO_SLOTS_LOG,
         [NOTES, *METADATA],
-        12,
         f"{MISSING}{FIRST[0].decode()}",
     ),
 ]
@@ -325,9 +345,10 @@ UNNAMED = [
     ("the first of two", [*METADATA[:2], SECOND, FIRST, *METADATA[2:]], SECOND[0].decode()),
 ]
 
-# Logs, and the outputs that their events name in this order: a setup script, an attempt and a test with two attempts, beside a
-# pause; both streams of a process, standard error before standard output and cut; and processes without bytes.
-NAMING = [
+# Logs, and the outputs that their events name in this order: a setup script, an attempt and a test
+# with two attempts, beside a pause; both streams of a process, standard error before standard
+# output and cut; and processes without bytes.
+NAMING: list[tuple[str, bytes, list[Entry]]] = [
     (
         "events of all kinds",
         LOGGED_PAUSE + log_of(SCRIPT_LINE, FAILED_LINE, TWO_ATTEMPTS_LINE),
@@ -338,7 +359,8 @@ NAMING = [
         "both streams",
         log_of(
             logged(
-                '{"output":{"output":{"split":{"stderr":{"truncated":{"file-name":"0000000000000007-stderr","original-size":9}},'
+                '{"output":{"output":{"split":{"stderr":{"truncated":{"file-name":'
+                '"0000000000000007-stderr","original-size":9}},'
                 '"stdout":{"full":"0000000000000007-stdout"}}}}}'
             )
         ),
@@ -355,8 +377,10 @@ NAMING = [
 ]
 
 
-def naming(name, log, outputs):
-    """The cases of a log whose events name these outputs: all are there, and then the first that is missing is said."""
+def naming(name: str, log: bytes, outputs: Sequence[Entry]) -> Iterator[Case]:
+    """The cases of a log whose events name these outputs: all are there, and then the first that is
+    missing is said.
+    """
     yield upgraded(f"of {name}", bundle(log, container([*METADATA, *outputs])), whole(log, outputs))
     for count, (missing, _) in enumerate(outputs):
         stored = container([*METADATA, *outputs[:count]])
@@ -372,12 +396,12 @@ LONG = (FIRST[0], b"x" * 9001)
 RERUN_METADATA = [METADATA[0], (b"meta/rerun-info.json", RERUN_WRITTEN), *METADATA[1:]]
 
 
-def above(limit, name, size):
+def above(limit: int, name: str, size: int) -> str:
     """What is said of an entry above the read limit."""
     return f"FileTooLarge file_name={name} size={size} limit={limit}"
 
 
-def long_part(name):
+def long_part(name: bytes) -> Case:
     """The case of a store in which the entry of this name has blanks up to 1001 bytes."""
     stored = container(
         [(entry, kept.ljust(1001) if entry == name else kept) for entry, kept in RERUN_METADATA]
@@ -442,7 +466,7 @@ CASES = [
     ],
     *[
         refused(f"of {name}", bundle(log, container(entries)), status, line)
-        for name, log, entries, status, line in UNREAD
+        for name, log, entries, line, status in UNREAD
     ],
     *[
         refused(

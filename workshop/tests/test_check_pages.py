@@ -1,10 +1,14 @@
 """The list of fault lines and the table of options are held against the pages."""
 
-import pathlib
-import tempfile
-import unittest
+from __future__ import annotations
 
-from workshop import check_pages
+from pathlib import Path
+
+import pytest
+
+from rezovamy_runs.faults.causes import COMMANDS, TAKEN
+from workshop import TOP, check_pages
+from workshop.crate_sources import contracts_in
 
 LINES = """
 | Status | Line on standard error | Meaning |
@@ -16,84 +20,72 @@ LINES = """
 |---|---|
 | 1 | `NotOne` |
 """
+FORMS = {"NoCommand", "UnknownCommand at={at}", "ReadError ParseEvent line_number={line_number}"}
 
 
-class FaultLines(unittest.TestCase):
-    def setUp(self):
-        self.folder = pathlib.Path(self.enterContext(tempfile.TemporaryDirectory()))
-        self.page = self.folder / "CLI.md"
-        before = check_pages.TOP, check_pages.faults, check_pages.TABLE
-        self.addCleanup(lambda: self.put(*before))
-        forms = (
-            "NoCommand",
-            "UnknownCommand at={at}",
-            "ReadError ParseEvent line_number={line_number}",
-        )
-        self.put(self.folder, [], tuple((form, "") for form in forms))
-
-    @staticmethod
-    def put(here, faults, table):
-        check_pages.TOP, check_pages.faults, check_pages.TABLE = here, faults, table
-
-    def faults_of(self, text):
-        self.page.write_text(text)
-        check_pages.check_faults(self.page)
-        return check_pages.faults
-
-    def test_lines_stand_in_the_second_column(self):
-        self.page.write_text(LINES)
-        lines = ["NoCommand", "UnknownCommand at=0", "ReadError ParseEvent line_number=4"]
-        self.assertEqual(check_pages.fault_lines(self.page), lines)
-
-    def test_nothing_is_wrong(self):
-        self.assertEqual(self.faults_of(LINES), [])
-
-    def test_a_line_without_a_sentence(self):
-        faults = self.faults_of(LINES.replace("`NoCommand`", "`NoCommand`, `NoSuchLine at=1`"))
-        self.assertEqual(
-            faults, ["CLI.md: no sentence for NoSuchLine at=1 in tools/runs/explain.py"]
-        )
-
-    def test_a_sentence_without_a_line(self):
-        faults = self.faults_of(LINES.replace("`UnknownCommand at=0`", ""))
-        self.assertEqual(
-            faults,
-            [
-                "CLI.md: no line UnknownCommand at={at}, of which tools/runs/explain.py has a sentence"
-            ],
-        )
-
-    def test_an_option_that_is_missing(self):
-        options = "| `--read-limit` | all | m |\n| `--session-limit` | `info` | m |\n"
-        self.page.write_text(f"| Option | Of | Meaning |\n|---|---|---|\n{options}")
-        check_pages.check_options(self.page)
-        self.assertEqual(len(check_pages.faults), len(check_pages.COMMANDS) - 1)
-        self.assertIn(
-            "CLI.md: report takes ['--read-limit'], and in faults/causes.py ['--read-limit', '--session-limit']",
-            check_pages.faults,
-        )
-
-    def test_crates_are_named_and_listed(self):
-        (self.folder / "docs").mkdir()
-        (self.folder / "crates.txt").write_text(
-            "# Crates\nrec_json: json\nrec_store: rec_json\nrezovamy: rec_store\n"
-        )
-        (self.folder / "README.md").write_text("| data | `rec_json` |\n")
-        (self.folder / "docs/ARCHITECTURE.md").write_text("`rec_other` and `rezovamy`\n")
-        check_pages.check_crates()
-        self.assertEqual(
-            check_pages.faults,
-            [
-                "crates.txt: rec_store is named neither in README.md nor in docs/ARCHITECTURE.md",
-                "docs/ARCHITECTURE.md: no crate rec_other",
-            ],
-        )
-
-    def test_a_contract_ends_where_the_body_begins(self):
-        text = "    fn a(x: u8) -> u8\n        ensures first\n    {\n        ensures none\n    }\n"
-        text += "    fn b()\n        ensures other;\n"
-        self.assertEqual(check_pages.contracts_in(text), {"a": {"first"}, "b": {"other"}})
+@pytest.fixture
+def page(tmp_path: Path) -> Path:
+    """Write a page with lines of faults."""
+    path = tmp_path / "CLI.md"
+    path.write_text(LINES)
+    return path
 
 
-if __name__ == "__main__":
-    unittest.main()
+def faults_of(page: Path, text: str) -> list[str]:
+    """Return what is wrong with the lines of a text."""
+    page.write_text(text)
+    return list(check_pages.sentence_faults(page, FORMS))
+
+
+def test_lines_stand_in_the_second_column(page: Path) -> None:
+    lines = ["NoCommand", "UnknownCommand at=0", "ReadError ParseEvent line_number=4"]
+    assert check_pages.fault_lines(page) == lines
+
+
+def test_nothing_is_wrong(page: Path) -> None:
+    assert faults_of(page, LINES) == []
+
+
+def test_a_line_without_a_sentence(page: Path) -> None:
+    faults = faults_of(page, LINES.replace("`NoCommand`", "`NoCommand`, `NoSuchLine at=1`"))
+    assert faults == ["no sentence for NoSuchLine at=1 in rezovamy_runs.faults.explain"]
+
+
+def test_a_sentence_without_a_line(page: Path) -> None:
+    faults = faults_of(page, LINES.replace("`UnknownCommand at=0`", ""))
+    form = "UnknownCommand at={at}"
+    assert faults == [f"no line {form}, of which rezovamy_runs.faults.explain has a sentence"]
+
+
+def test_an_option_that_is_missing(page: Path) -> None:
+    options = "| `--read-limit` | all | m |\n| `--session-limit` | `info` | m |\n"
+    page.write_text(f"| Option | Of | Meaning |\n|---|---|---|\n{options}")
+    faults = list(check_pages.option_faults(page, TAKEN, COMMANDS))
+    assert len(faults) == len(COMMANDS) - 1
+    assert (
+        "report takes ['--read-limit'], and in rezovamy_runs.faults.causes "
+        "['--read-limit', '--session-limit']" in faults
+    )
+
+
+def test_crates_are_named_and_listed(tmp_path: Path) -> None:
+    (tmp_path / "docs").mkdir()
+    crates = "# Crates\nrec_json: json\nrec_store: rec_json\nrezovamy: rec_store\n"
+    (tmp_path / "crates.txt").write_text(crates)
+    (tmp_path / "README.md").write_text("| data | `rec_json` |\n")
+    (tmp_path / "docs/ARCHITECTURE.md").write_text("`rec_other` and `rezovamy`\n")
+    assert list(check_pages.crate_faults(tmp_path)) == [
+        "crates.txt: rec_store is named neither in README.md nor in docs/ARCHITECTURE.md",
+        "docs/ARCHITECTURE.md: no crate rec_other",
+    ]
+
+
+def test_modules_that_are_run_are_there(page: Path) -> None:
+    page.write_text("`python3 -m workshop.gone` and `python3 -m workshop.sweep --only x`\n")
+    assert list(check_pages.module_faults(page, TOP)) == ["no module workshop.gone"]
+
+
+def test_a_contract_ends_where_the_body_begins() -> None:
+    text = "    fn a(x: u8) -> u8\n        ensures first\n    {\n        ensures none\n    }\n"
+    text += "    fn b()\n        ensures other;\n"
+    assert contracts_in(text) == {"a": {"first"}, "b": {"other"}}

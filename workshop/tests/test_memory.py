@@ -1,13 +1,16 @@
-"""How much memory the built program holds: within three times its input, beside its own, for each command and each shape of session."""
+"""How much memory the built program holds.
+
+It is within three times its input, beside its own, for each command and each shape of session.
+"""
+
+from __future__ import annotations
 
 import os
-import pathlib
 import subprocess
 import sys
-import tempfile
-import unittest
+from pathlib import Path
 
-from rezovamy_runs import recorder
+import pytest
 
 from workshop import TOP
 
@@ -20,7 +23,9 @@ SHAPES = {
 }
 # What the program holds of any input, and a little more, in bytes.
 OWN = 4 << 20
-# `slots` alone holds more where all tests are open at once, so it isn't tried with such a session.
+# The last one writes the bundle that the readers read.
+WRITERS = ("record bundle --message-format json-pretty", "record bundle")
+# `slots` alone holds more where all tests are open at once, so no such session is tried with it.
 READERS = (
     "info",
     "trace",
@@ -34,36 +39,30 @@ READERS = (
 )
 
 
-class TestMemory(unittest.TestCase):
-    """Each command over the sessions of `python3 -m workshop.make_session`."""
+def most_held(program: Path, words: str, source: Path) -> int:
+    """Return the most bytes that the program held, with this file as standard input."""
+    with source.open("rb") as given:
+        done = subprocess.Popen(
+            [program, *words.split()], stdin=given, stdout=subprocess.DEVNULL, cwd=source.parent
+        )
+        _, status, usage = os.wait4(done.pid, 0)
+    done.returncode = os.waitstatus_to_exitcode(status)
+    assert done.returncode == 0, words
+    return usage.ru_maxrss * 1024
 
-    def setUp(self):
-        found = tempfile.TemporaryDirectory()
-        self.addCleanup(found.cleanup)
-        self.folder = pathlib.Path(found.name)
 
-    def most(self, words, source):
-        """The most bytes that the program held, with this file as standard input."""
-        with source.open("rb") as given:
-            done = subprocess.Popen(
-                [recorder.find(), *words.split()],
-                stdin=given,
-                stdout=subprocess.DEVNULL,
-                cwd=self.folder,
-            )
-            _, status, usage = os.wait4(done.pid, 0)
-        done.returncode = os.waitstatus_to_exitcode(status)
-        self.assertEqual(done.returncode, 0, words)
-        return usage.ru_maxrss * 1024
-
-    def test_each_shape(self):
-        for shape, words in SHAPES.items():
-            session, bundle = self.folder / "session", self.folder / "bundle"
-            with session.open("wb") as out:
-                subprocess.run([*MAKE_SESSION, *words, "--ends"], cwd=TOP, stdout=out, check=True)
-            for command in ("record bundle --message-format json-pretty", "record bundle"):
-                with self.subTest(shape=shape, command=command):
-                    self.assertLess(self.most(command, session), OWN + 3 * session.stat().st_size)
-            for command in READERS:
-                with self.subTest(shape=shape, command=command):
-                    self.assertLess(self.most(command, bundle), OWN + 3 * bundle.stat().st_size)
+@pytest.mark.program
+@pytest.mark.parametrize("shape", SHAPES.values(), ids=SHAPES)
+def test_memory_stays_within_three_times_the_input(
+    shape: list[str], program: Path, tmp_path: Path
+) -> None:
+    session, bundle = tmp_path / "session", tmp_path / "bundle"
+    with session.open("wb") as out:
+        subprocess.run([*MAKE_SESSION, *shape, "--ends"], cwd=TOP, stdout=out, check=True)
+    tried = [(words, session) for words in WRITERS] + [(words, bundle) for words in READERS]
+    above = {
+        words: held
+        for words, source in tried
+        if (held := most_held(program, words, source)) >= OWN + 3 * source.stat().st_size
+    }
+    assert above == {}
