@@ -1,13 +1,15 @@
-#!/usr/bin/env python3
 """Puts the imports of proof files and the `ghost use` lines of source files into one order.
 
-    python3 -m workshop.sort_imports            prints each file whose imports are not in order, and ends with status 1 if there is one
+    python3 -m workshop.sort_imports            prints each file whose imports are not in order
     python3 -m workshop.sort_imports --write    puts them in order
 
-Imports that stand one below the other are a block. In a block those of the standard library come first,
-then those of other libraries, then those of the crates of this repository from the lowest up, each group
-in the order of their paths. Imports of one path stay in the order in which they stand.
+Imports that stand one below the other are a block. In a block those of the standard library come
+first, then those of other libraries, then those of the crates of this repository from the lowest
+up, each group in the order of their paths. Imports of one path stay in the order in which they
+stand. The status is 1 where a file was printed.
 """
+
+from __future__ import annotations
 
 import re
 import sys
@@ -21,8 +23,8 @@ IMPORT = re.compile(r"\s*(?:ghost )?use(?: Rattle\.|$)")
 PATH = re.compile(r"(?:ghost )?use Rattle\.([^\s{]+\{?)")
 
 
-def layers():
-    """Returns the crates of the repository, in the order of crates.txt, which lists the lowest first."""
+def layers() -> list[str]:
+    """Returns the crates of the repository, in the order of crates.txt: the lowest first."""
     lines = (TOP / "crates.txt").read_text().splitlines()
     return [line.split(":")[0] for line in lines if line and not line.startswith("#")]
 
@@ -32,7 +34,7 @@ def joined(lines: list[str]) -> str:
 
 
 def import_length(lines: list[str]) -> int:
-    """Returns how many lines the import has with which the lines begin, 0 where they begin with none."""
+    """Returns how many lines the import has with which the lines begin, 0 where there is none."""
     if not lines or not IMPORT.match(lines[0]):
         return 0
     length = 1
@@ -70,7 +72,7 @@ def in_order(text: str, crates: list[str]) -> str:
     return "\n".join(done)
 
 
-def main():
+def main() -> int:
     parser = command_line(__doc__)
     parser.add_argument("--write", action="store_true", help="put the imports in order")
     write, crates, found = parser.parse_args().write, layers(), False
@@ -80,10 +82,11 @@ def main():
         text = path.read_text()
         sorted_text = in_order(text, crates)
         if sorted_text != text:
-            path.write_text(sorted_text) if write else print(
-                f"{path.relative_to(TOP)}: imports are not in order"
-            )
-            found = not write
+            if write:
+                path.write_text(sorted_text)
+            else:
+                print(f"{path.relative_to(TOP)}: imports are not in order")
+                found = True
     return int(found)
 
 
