@@ -1,4 +1,3 @@
-#!/usr/bin/env python3
 """Holds each file of the repository to the width of its kind.
 
     python3 -m workshop.check_width
