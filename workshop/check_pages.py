@@ -76,9 +76,13 @@ def link_faults(page: Path) -> Iterator[str]:
 
 
 def path_faults(page: Path, top: Path) -> Iterator[str]:
-    """Yield each path in backquotes that isn't there, from the top, the crates or the page."""
+    """Yield each path in backquotes that isn't there.
+
+    It may begin at the top, at the crates, at the front end's package, or beside the page.
+    """
+    places = (top, top / "crates", top / "front/src/rezovamy_runs", page.parent)
     for path in PATH.findall(page.read_text()):
-        if not any((place / path).exists() for place in (top, top / "crates", page.parent)):
+        if not any((place / path).exists() for place in places):
             yield f"no file {path}"
 
 
