@@ -1,5 +1,6 @@
 -- What is read of each trace event.
-use Rattle.std.proofs.Common.{◌≡◌, ℕ, ℤ, pos, negsuc, Bool, List, [], ◌∷◌, map, Option, None, Some, refl, ap, ◌∙◌}
+use Rattle.std.proofs.Common.{◌≡◌, ℕ, ℤ, pos, negsuc, Bool, List, [], ◌∷◌}
+use Rattle.std.proofs.Common.{map, Option, None, Some, refl, ap, ◌∙◌}
 use Rattle.std.specs.Prelude.{codes, option_and_then, option_map}
 use Rattle.serde_json.specs.Data.{Data, string}
 use Rattle.serde_json.specs.Find.{as_str}
@@ -13,20 +14,32 @@ use Rattle.rec_events.specs.declared.statuses.ExecuteStatus.{ExecuteStatus}
 use Rattle.rec_events.specs.Times.{Span}
 use Rattle.rec_forms.specs.Members.{get_member-members_of, sought}
 use Rattle.rec_forms.specs.Shape.{Field, struct}
-use Rattle.rec_trace_events.specs.Args.{failed_attempt_args, retry_begin_args, slow_test_args, test_begin_args}
+use Rattle.rec_trace_events.specs.Args.{failed_attempt_args, retry_begin_args}
+use Rattle.rec_trace_events.specs.Args.{slow_test_args, test_begin_args}
 use Rattle.rec_trace_events.specs.declared.counts.RunningCounts.{RunningCounts}
 use Rattle.rec_trace_events.specs.declared.counts.TestCounts.{TestCounts}
-use Rattle.rec_trace_events.specs.declared.instants.RunMark.TheVariants.{Cancelled, Continued, Paused}
+use Rattle.rec_trace_events.specs.declared.instants.RunMark.TheVariants.{
+  Cancelled,
+  Continued,
+  Paused,
+}
 use Rattle.rec_trace_events.specs.declared.instants.RunMark.{RunMark}
 use Rattle.rec_trace_events.specs.declared.rows.Category.{Category}
 use Rattle.rec_trace_events.specs.declared.rows.Row.{Row}
-use Rattle.rec_trace_events.specs.ReadEvents.{args_at, arrow_read, count_in_args, counter_read, event_read, metadata_read, plain_read, test_in, text_at, text_in_args}
-use Rattle.rec_trace_events.specs.TraceEvents.{arrow_finish, arrow_start, begin_event, category_text, concurrency_event, end_event, mark_args, mark_event, mark_name, process_metadata, process_row, results_event, run_row, slow_event, thread_metadata}
+use Rattle.rec_trace_events.specs.ReadEvents.{args_at, arrow_read, count_in_args}
+use Rattle.rec_trace_events.specs.ReadEvents.{counter_read, event_read, metadata_read}
+use Rattle.rec_trace_events.specs.ReadEvents.{plain_read, test_in, text_at, text_in_args}
+use Rattle.rec_trace_events.specs.TraceEvents.{arrow_finish, arrow_start, begin_event}
+use Rattle.rec_trace_events.specs.TraceEvents.{category_text, concurrency_event, end_event}
+use Rattle.rec_trace_events.specs.TraceEvents.{mark_args, mark_event, mark_name}
+use Rattle.rec_trace_events.specs.TraceEvents.{process_metadata, process_row, results_event}
+use Rattle.rec_trace_events.specs.TraceEvents.{run_row, slow_event, thread_metadata}
 
 -- ---- slices
 
 pub begin-read : (name : List ℕ) (category : Category) (row : Row) (at : ℤ) (args : Option Data)
-    → event_read (begin_event name category row at args) ≡ Some (plain_read (codes "B") name (category_text category) row at)
+    → event_read (begin_event name category row at args)
+    ≡ Some (plain_read (codes "B") name (category_text category) row at)
 unfolding begin_event members_of
 begin-read name category row (pos n) None = refl
 begin-read name category row (negsuc n) None = refl
@@ -34,7 +47,8 @@ begin-read name category row (pos n) (Some d) = refl
 begin-read name category row (negsuc n) (Some d) = refl
 
 pub end-read : (name : List ℕ) (category : Category) (row : Row) (at : ℤ) (args : Option Data)
-    → event_read (end_event name category row at args) ≡ Some (plain_read (codes "E") name (category_text category) row at)
+    → event_read (end_event name category row at args)
+    ≡ Some (plain_read (codes "E") name (category_text category) row at)
 unfolding end_event members_of
 end-read name category row (pos n) None = refl
 end-read name category row (negsuc n) None = refl
@@ -64,24 +78,29 @@ unfolding members_of
 process-read pid name = refl
 
 pub row-read : (row : Row) (name : List ℕ) → map event_read (thread_metadata row name)
-    ≡ Some (metadata_read (codes "thread_name") row) ∷ Some (metadata_read (codes "thread_sort_index") row) ∷ []
+    ≡ Some (metadata_read (codes "thread_name") row)
+    ∷ Some (metadata_read (codes "thread_sort_index") row) ∷ []
 unfolding members_of
 row-read row name = refl
 
 -- the names, and the places among others
-pub process-named : (pid : ℕ) (name : List ℕ) → map (text_in_args (codes "name")) (process_metadata pid name) ≡ Some name ∷ None ∷ []
+pub process-named : (pid : ℕ) (name : List ℕ)
+    → map (text_in_args (codes "name")) (process_metadata pid name) ≡ Some name ∷ None ∷ []
 unfolding members_of
 process-named pid name = refl
 
-pub process-placed : (pid : ℕ) (name : List ℕ) → map (count_in_args (codes "sort_index")) (process_metadata pid name) ≡ None ∷ Some pid ∷ []
+pub process-placed : (pid : ℕ) (name : List ℕ)
+    → map (count_in_args (codes "sort_index")) (process_metadata pid name) ≡ None ∷ Some pid ∷ []
 unfolding members_of
 process-placed pid name = refl
 
-pub row-named : (row : Row) (name : List ℕ) → map (text_in_args (codes "name")) (thread_metadata row name) ≡ Some name ∷ None ∷ []
+pub row-named : (row : Row) (name : List ℕ)
+    → map (text_in_args (codes "name")) (thread_metadata row name) ≡ Some name ∷ None ∷ []
 unfolding members_of
 row-named row name = refl
 
-pub row-placed : (row : Row) (name : List ℕ) → map (count_in_args (codes "sort_index")) (thread_metadata row name) ≡ None ∷ Some row.tid ∷ []
+pub row-placed : (row : Row) (name : List ℕ)
+    → map (count_in_args (codes "sort_index")) (thread_metadata row name) ≡ None ∷ Some row.tid ∷ []
 unfolding members_of
 row-placed row name = refl
 
@@ -116,14 +135,16 @@ results-counted counts at = (refl, refl, refl)
 -- ---- instants
 
 pub mark-read : (mark : RunMark) (counts : RunningCounts) (at : ℤ)
-    → event_read (mark_event mark counts at) ≡ Some (plain_read (codes "i") (mark_name mark) (codes "run") run_row at)
+    → event_read (mark_event mark counts at)
+    ≡ Some (plain_read (codes "i") (mark_name mark) (codes "run") run_row at)
 unfolding mark_event members_of
 mark-read mark counts (pos n) = refl
 mark-read mark counts (negsuc n) = refl
 
 pub mark-counted : (mark : RunMark) (counts : RunningCounts) (at : ℤ)
     → (count_in_args (codes "running") (mark_event mark counts at) ≡ Some counts.tests)
-    × (count_in_args (codes "setup_scripts_running") (mark_event mark counts at) ≡ Some counts.scripts)
+    × (count_in_args (codes "setup_scripts_running") (mark_event mark counts at)
+    ≡ Some counts.scripts)
 unfolding mark_event mark_args members_of
 mark-counted (Cancelled reason) counts at = (refl, refl)
 mark-counted Paused counts at = (refl, refl)
@@ -143,23 +164,27 @@ unfolding mark_name
 continued-named = refl
 
 pub slow-read : (category : Category) (row : Row) (at : ℤ) (args : Data)
-    → event_read (slow_event category row at args) ≡ Some (plain_read (codes "i") (codes "slow") (category_text category) row at)
+    → event_read (slow_event category row at args)
+    ≡ Some (plain_read (codes "i") (codes "slow") (category_text category) row at)
 unfolding slow_event members_of
 slow-read category row (pos n) args = refl
 slow-read category row (negsuc n) args = refl
 
-pub slow-args : (category : Category) (row : Row) (at : ℤ) (args : Data) → args_at (slow_event category row at args) ≡ Some args
+pub slow-args : (category : Category) (row : Row) (at : ℤ) (args : Data)
+    → args_at (slow_event category row at args) ≡ Some args
 unfolding slow_event members_of
 slow-args category row at args = refl
 
 -- ---- arrows
 
-pub arrow_start-read : (row : Row) (at : ℤ) (number : ℕ) → event_read (arrow_start row at number) ≡ Some (arrow_read (codes "s") row at number)
+pub arrow_start-read : (row : Row) (at : ℤ) (number : ℕ)
+    → event_read (arrow_start row at number) ≡ Some (arrow_read (codes "s") row at number)
 unfolding arrow_start members_of
 arrow_start-read row (pos n) number = refl
 arrow_start-read row (negsuc n) number = refl
 
-pub arrow_finish-read : (row : Row) (at : ℤ) (number : ℕ) → event_read (arrow_finish row at number) ≡ Some (arrow_read (codes "f") row at number)
+pub arrow_finish-read : (row : Row) (at : ℤ) (number : ℕ)
+    → event_read (arrow_finish row at number) ≡ Some (arrow_read (codes "f") row at number)
 unfolding arrow_finish members_of
 arrow_finish-read row (pos n) number = refl
 arrow_finish-read row (negsuc n) number = refl
@@ -167,29 +192,41 @@ arrow_finish-read row (negsuc n) number = refl
 -- ---- the tests that args name
 
 -- what fields name, whichever others of them are there
-test-in : (fs : List Field) (binary name : List ℕ) → sought None (codes "binary_id") fs ≡ Some (string binary)
-    → sought None (codes "test_name") fs ≡ Some (string name) → test_in (struct fs) ≡ Some (binary, name)
+test-in : (fs : List Field) (binary name : List ℕ)
+    → sought None (codes "binary_id") fs ≡ Some (string binary)
+    → sought None (codes "test_name") fs ≡ Some (string name)
+    → test_in (struct fs) ≡ Some (binary, name)
 test-in fs binary name binary_is name_is =
-    ap (λ o. option_and_then (λ b. option_map (λ n. (b, n)) (text_at (codes "test_name") (struct fs))) (option_and_then as_str o))
+    ap
+    (λ o. option_and_then (λ b. option_map (λ n. (b, n)) (text_at (codes "test_name") (struct fs)))
+    (option_and_then as_str o))
     (get_member-members_of (codes "binary_id") fs ∙ binary_is)
-    ∙ ap (λ o. option_map (λ n. (binary, n)) (option_and_then as_str o)) (get_member-members_of (codes "test_name") fs ∙ name_is)
+    ∙ ap (λ o. option_map (λ n. (binary, n)) (option_and_then as_str o))
+    (get_member-members_of (codes "test_name") fs ∙ name_is)
 
 pub begin-names : (test : OwnedTestInstanceId) (command_line : List (List ℕ))
     → test_in (test_begin_args test command_line) ≡ Some (test.binary_id, test.test_name)
 unfolding test_begin_args
 begin-names test command_line = test-in _ test.binary_id test.test_name refl refl
 
-pub retry-names : (test : OwnedTestInstanceId) (retry_data : RetryData) (command_line : List (List ℕ))
-    → test_in (retry_begin_args test retry_data command_line) ≡ Some (test.binary_id, test.test_name)
+pub retry-names : (test : OwnedTestInstanceId) (retry_data : RetryData)
+    (command_line : List (List ℕ))
+    → test_in (retry_begin_args test retry_data command_line)
+    ≡ Some (test.binary_id, test.test_name)
 unfolding retry_begin_args
 retry-names test retry_data command_line = test-in _ test.binary_id test.test_name refl refl
 
-pub slow-names : (test : OwnedTestInstanceId) (index : Option StressIndexSummary) (retry_data : RetryData) (elapsed : Span) (will_terminate : Bool)
-    → test_in (slow_test_args test index retry_data elapsed will_terminate) ≡ Some (test.binary_id, test.test_name)
+pub slow-names : (test : OwnedTestInstanceId) (index : Option StressIndexSummary)
+    (retry_data : RetryData) (elapsed : Span) (will_terminate : Bool)
+    → test_in (slow_test_args test index retry_data elapsed will_terminate)
+    ≡ Some (test.binary_id, test.test_name)
 unfolding slow_test_args
-slow-names test index retry_data elapsed will_terminate = test-in _ test.binary_id test.test_name refl refl
+slow-names test index retry_data elapsed will_terminate =
+    test-in _ test.binary_id test.test_name refl refl
 
-pub failed-names : {S O : Type 0} (test : OwnedTestInstanceId) (index : Option StressIndexSummary) (group : TestGroup) (status : ExecuteStatus S O) (delay : Span)
-    → test_in (failed_attempt_args test index group status delay) ≡ Some (test.binary_id, test.test_name)
+pub failed-names : {S O : Type 0} (test : OwnedTestInstanceId) (index : Option StressIndexSummary)
+    (group : TestGroup) (status : ExecuteStatus S O) (delay : Span)
+    → test_in (failed_attempt_args test index group status delay)
+    ≡ Some (test.binary_id, test.test_name)
 unfolding failed_attempt_args
 failed-names test index group status delay = test-in _ test.binary_id test.test_name refl refl

@@ -1,7 +1,8 @@
 -- What a viewer reads of the events of a trace: of each object the members `ph`, `name`, `cat`,
 -- `pid`, `tid`, `ts` and `id`, and what its `args` hold.
 use Rattle.std.specs.List.{filter_map}
-use Rattle.std.specs.Prelude.{ℕ, ℤ, pos, Bool, ◌||◌, List, [], Option, None, Some, bytes_eq, codes, filter, option_and_then, option_map}
+use Rattle.std.specs.Prelude.{ℕ, ℤ, pos, Bool, ◌||◌, List, [], Option, None, Some}
+use Rattle.std.specs.Prelude.{bytes_eq, codes, filter, option_and_then, option_map}
 use Rattle.serde_json.specs.Data.{Data}
 use Rattle.serde_json.specs.Find.{as_integer, as_number, as_str, as_u64, get}
 use Rattle.rec_trace_events.specs.declared.rows.Row.{Row}
@@ -46,7 +47,8 @@ count_in_args key d = option_and_then (natural_at key) (args_at d)
 -- the test that args name, by its binary and its name
 abbrev pub test_in : Data → Option (List ℕ × List ℕ)
 test_in args =
-    option_and_then (λ binary. option_map (λ name. (binary, name)) (text_at (codes "test_name") args))
+    option_and_then
+    (λ binary. option_map (λ name. (binary, name)) (text_at (codes "test_name") args))
     (text_at (codes "binary_id") args)
 
 abbrev pub test_in_args : Data → Option (List ℕ × List ℕ)
@@ -57,9 +59,18 @@ test_in_args d = option_and_then test_in (args_at d)
 -- the event that an object is read as, where none of the members is missing that each event has
 abbrev pub event_read : Data → Option ReadEvent
 event_read d =
-    option_and_then (λ phase. option_and_then (λ name. option_and_then (λ category. option_and_then (λ row. option_map (λ at.
-        record { phase = phase; name = name; category = category; row = row; at = at; id = natural_at (codes "id") d })
-    (integer_at (codes "ts") d)) (row_at d)) (text_at (codes "cat") d)) (text_at (codes "name") d)) (text_at (codes "ph") d)
+    option_and_then (λ phase.
+    option_and_then (λ name. option_and_then (λ category. option_and_then (λ row. option_map (λ at.
+    record {
+      phase = phase;
+      name = name;
+      category = category;
+      row = row;
+      at = at;
+      id = natural_at (codes "id") d;
+    })
+    (integer_at (codes "ts") d)) (row_at d)) (text_at (codes "cat") d)) (text_at (codes "name") d))
+    (text_at (codes "ph") d)
 
 abbrev pub events_read : List Data → List ReadEvent
 events_read ds = filter_map event_read ds
@@ -82,7 +93,14 @@ plain_read phase name category row at =
 -- the start or the finish of the arrow of this number
 abbrev pub arrow_read : List ℕ → Row → ℤ → ℕ → ReadEvent
 arrow_read phase row at number =
-    record { phase = phase; name = codes "retry"; category = codes "test"; row = row; at = at; id = Some number }
+    record {
+      phase = phase;
+      name = codes "retry";
+      category = codes "test";
+      row = row;
+      at = at;
+      id = Some number;
+    }
 
 -- metadata has no time of its own
 abbrev pub metadata_read : List ℕ → Row → ReadEvent

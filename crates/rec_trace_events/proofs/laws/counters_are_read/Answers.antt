@@ -1,5 +1,6 @@
 use Rattle.rec_trace_events.proofs.laws.counters_are_read.Goals as goal
-use Rattle.rec_trace_events.proofs.ReadEvents.{results-counted, results-read, running-counted, running-read}
+use Rattle.rec_trace_events.proofs.ReadEvents.{results-counted, results-read}
+use Rattle.rec_trace_events.proofs.ReadEvents.{running-counted, running-read}
 
 pub returns-clause-running : goal.returns-clause-running
 returns-clause-running c = running-read

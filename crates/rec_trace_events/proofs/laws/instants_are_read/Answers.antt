@@ -1,5 +1,6 @@
 use Rattle.rec_trace_events.proofs.laws.instants_are_read.Goals as goal
-use Rattle.rec_trace_events.proofs.ReadEvents.{cancelled-named, continued-named, mark-counted, mark-read, paused-named, slow-args, slow-read}
+use Rattle.rec_trace_events.proofs.ReadEvents.{cancelled-named, continued-named, mark-counted}
+use Rattle.rec_trace_events.proofs.ReadEvents.{mark-read, paused-named, slow-args, slow-read}
 
 pub returns-clause-mark : goal.returns-clause-mark
 returns-clause-mark c = mark-read

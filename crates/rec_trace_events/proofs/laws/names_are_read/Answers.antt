@@ -1,5 +1,6 @@
 use Rattle.rec_trace_events.proofs.laws.names_are_read.Goals as goal
-use Rattle.rec_trace_events.proofs.ReadEvents.{process-named, process-placed, process-read, row-named, row-placed, row-read}
+use Rattle.rec_trace_events.proofs.ReadEvents.{process-named, process-placed, process-read}
+use Rattle.rec_trace_events.proofs.ReadEvents.{row-named, row-placed, row-read}
 
 pub returns-clause-process : goal.returns-clause-process
 returns-clause-process c = process-read
