@@ -28,4 +28,4 @@ pub returns-clause-trace : goal.returns-clause-trace
 returns-clause-trace g c =
     converts-all c.args.message_format c.args.group_by c.args.version.now c.loop-item.trace c.loop-item.yielded c.loop-item.invariant.converted
     g.I.Iterator.next_gives c.args.events c.into_iter-item-iterator.result c.loop-item.item-iterator c.next.new.self c.into_iter-item-iterator.ensures.into_iter_gives c.loop-item.yielded_by
-    c.in_ok-text.text.items c.in-None.ensures.steps c.in_ok-text.ensures
+    c.in_ok-text.text.items c.in-None.ensures.steps c.in_ok-text.ensures.written c.in_ok-text.ensures.printed
