@@ -40,6 +40,7 @@ use Rattle.rec_spans.specs.declared.settings.ChromeTraceGroupBy.{ChromeTraceGrou
 use Rattle.rec_spans.specs.Plain.{PlainEvent, plain}
 use Rattle.rec_spans.specs.Refusals.{events_refusal}
 use Rattle.rec_trace.specs.declared.settings.ChromeTraceMessageFormat.{ChromeTraceMessageFormat}
+use Rattle.rec_trace.specs.PrintedTimeline.{PrintsTimeline}
 use Rattle.rec_slots.specs.declared.report.SlotError.TheVariants as slots
 use Rattle.rec_slots.specs.declared.report.SlotError.{SlotError}
 use Rattle.rec_slots.specs.declared.report.SlotReport.{SlotReport}
@@ -363,11 +364,25 @@ module _ {S T G : Type 0} (left : S → Option (List ℕ)) (source_faults : S �
     pub traced : ShowsReading (PrintsTrace settings.group_by settings.message_format)
         → (bytes : List ℕ) × (es : List Entry) × (manifest : PortableManifest) × (log : List ℕ) × Gave left source_faults settings.session_limit s0 s1 bytes × IsContainer bytes es
         × (judged settings.read_limit es ≡ Ok manifest) × (log_part settings.read_limit es ≡ Ok log) × (log_refusal settings.group_by (log_lines log) ≡ None)
-        × DrawsTimeline manifest.run.nextest_version settings.group_by (plain_log (log_lines log)) × Appends (out_taken o0) (out_taken o1) (bundle_trace settings.group_by settings.message_format manifest log)
+        × DrawsTimeline manifest.run.nextest_version settings.group_by (plain_log (log_lines log))
+        × PrintsTimeline manifest.run.nextest_version settings.group_by (plain_log (log_lines log)) (bundle_trace settings.group_by settings.message_format manifest log)
+        × Appends (out_taken o0) (out_taken o1) (bundle_trace settings.group_by settings.message_format manifest log)
     traced runs =
         let w = bundle_printed (PrintsTrace settings.group_by settings.message_format) runs in
-        let m = trace_is settings.group_by settings.message_format settings.read_limit w.1 w.3 w.7 in
-        (w.0, w.1, m.0, m.1, w.4, w.5, m.2, m.3, m.4, log_timeline m.0.run.nextest_version settings.group_by (log_lines m.1) m.4, subst (λ (t : List ℕ). Appends (out_taken o0) (out_taken o1) t) (sym m.5) w.8)
+        let m = trace_is settings.group_by settings.message_format settings.read_limit w.1 w.3 w.7.0 in (
+          w.0,
+          w.1,
+          m.0,
+          m.1,
+          w.4,
+          w.5,
+          m.2,
+          m.3,
+          m.4,
+          log_timeline m.0.run.nextest_version settings.group_by (log_lines m.1) m.4,
+          subst (λ (t : List ℕ). PrintsTimeline m.0.run.nextest_version settings.group_by (plain_log (log_lines m.1)) t) (sym m.5) (w.7.1 m.0 m.1 m.2 m.3),
+          subst (λ (t : List ℕ). Appends (out_taken o0) (out_taken o1) t) (sym m.5) w.8,
+        )
 
     pub redrawn : (recorded : Settings) (number : List ℕ → ℕ) (session bytes trace : List ℕ) → AreOf number recorded session bytes trace
         → settings.group_by ≡ recorded.group_by → settings.message_format ≡ recorded.message_format → left s0 ≡ Some bytes
@@ -376,7 +391,7 @@ module _ {S T G : Type 0} (left : S → Option (List ℕ)) (source_faults : S �
         let w = bundle_printed (PrintsTrace settings.group_by settings.message_format) runs in
         let same = same_session (left s0) (left s1) bytes w.0 has w.4.gave w.4.ended in
         let is = subst (λ (b : List ℕ). IsContainer b w.1) same w.5 in
-        subst (λ (t : List ℕ). Appends (out_taken o0) (out_taken o1) t) (same_trace settings recorded number session bytes trace w.1 w.3 are group format is w.7) w.8
+        subst (λ (t : List ℕ). Appends (out_taken o0) (out_taken o1) t) (same_trace settings recorded number session bytes trace w.1 w.3 are group format is w.7.0) w.8
 
     pub replayed : (output : LoadOutput) → ShowsReading (PrintsReplay output)
         → (bytes : List ℕ) × (es : List Entry) × (text : List ℕ) × Gave left source_faults settings.session_limit s0 s1 bytes × IsContainer bytes es
@@ -421,9 +436,11 @@ module _ {S T G : Type 0} (left : S → Option (List ℕ)) (source_faults : S �
 
     pub trace_or_memory : (manifest : PortableManifest) (log : List ℕ) → judged settings.read_limit es ≡ Ok manifest → log_part settings.read_limit es ≡ Ok log → log_refusal settings.group_by (log_lines log) ≡ None
         → ShowsReading (PrintsTrace settings.group_by settings.message_format) → (status ≡ 0) ⊎ (status ≡ 70)
-    trace_or_memory manifest log h l r =
-        printed_or_memory (trace_of settings.group_by settings.message_format) (bundle_trace settings.group_by settings.message_format manifest log) manifest h
-        (trace_printed settings.group_by settings.message_format settings.read_limit es manifest log h l r)
+    trace_or_memory manifest log h l r runs =
+        let prints = PrintsTrace settings.group_by settings.message_format in
+        let made = trace_printed settings.group_by settings.message_format settings.read_limit es manifest log h l r in
+        shown_or_memory reading_shown reading_status reading_above bundle_error left source_faults out_taken out_faults diag_taken diag_faults prints settings status s0 s1 o0 o1 d0 d1
+        bytes es has short is (unrefused prints es manifest h (λ e refused. let never = refused.0 in cc)) source out refl runs
 
     pub replay_or_memory : (output : LoadOutput) (text : List ℕ) → replay_of output settings.read_limit es ≡ Ok text → ShowsReading (PrintsReplay output) → (status ≡ 0) ⊎ (status ≡ 70)
     replay_or_memory output text h =
