@@ -12,6 +12,7 @@ use Rattle.rec_store.specs.Bundle.{manifest_text, run_bundle, run_log, run_store
 use Rattle.rec_store.specs.Entries.{log_name, manifest_name}
 use Rattle.rec_store.specs.Reading.{IsReading, recorded}
 use Rattle.rec_spans.specs.Plain.{plain}
+use Rattle.rec_trace.specs.PrintedTimeline.{PrintsTimeline}
 use Rattle.rec_errors.specs.declared.export_error.RecordExportError.TheVariants.{
   ParseHead,
   CountOutOfRange,
@@ -71,8 +72,8 @@ module _ (number : List ℕ → ℕ) (settings : Settings) where
       refusal_after (session_head session) (event_lines (session_lines session))
 
   -- The session is valid, this is its bundle, and the bundle is read as what was recorded of the
-  -- session. This is the text of its trace: begins and ends on every row take turns, and are the
-  -- slices that the pauses leave, at their events' instants;
+  -- session. This is the text of its trace, in which a viewer reads its timeline: begins and ends
+  -- on every row take turns, and are the slices that the pauses leave, at their events' instants;
   -- and each arrow starts before it finishes
   pub record AreOf (session bundle trace : List ℕ) : Type 0 where
     pub head : SessionHead
@@ -83,3 +84,5 @@ module _ (number : List ℕ → ℕ) (settings : Settings) where
     pub traced : trace ≡ run_trace settings head (session_events session)
     pub drawn : DrawsTimeline head.nextest_version settings.group_by
         (map plain (session_events session))
+    pub printed : PrintsTimeline head.nextest_version settings.group_by
+        (map plain (session_events session)) trace

@@ -11,6 +11,7 @@ use Rattle.rec_spans.specs.Plain.{PlainEvent, plain}
 use Rattle.rec_spans.specs.Refusals.{events_refusal}
 use Rattle.rec_trace.specs.declared.printed_trace.PrintedTrace.{PrintedTrace}
 use Rattle.rec_trace.specs.declared.settings.ChromeTraceMessageFormat.{ChromeTraceMessageFormat}
+use Rattle.rec_trace.specs.PrintedTimeline.{PrintsTimeline}
 use Rattle.rec_trace.specs.Traces.{HasTraced, trace_text}
 use Rattle.rec_errors.specs.declared.export_error.RecordExportError.TheVariants.{OutOfMemory}
 use Rattle.rec_errors.specs.declared.export_error.RecordExportError.{RecordExportError}
@@ -40,9 +41,11 @@ abbrev pub IsTraceOf : ChromeTraceMessageFormat → ChromeTraceGroupBy → Parts
     → SessionTrace → Type 0
 IsTraceOf format g version events t = IsTracedOr format g version events t.trace t.refusal
 
--- the text of the trace of these events is answered, or why there is none, or memory ran out
-abbrev pub AnswersTrace : ChromeTraceGroupBy → List PlainEvent → List ℕ
+-- the text of the trace of these events is answered, in which a viewer reads their timeline; or why
+-- there is none, or memory ran out
+abbrev pub AnswersTrace : Parts → ChromeTraceGroupBy → List PlainEvent → List ℕ
     → Result (Vec ℕ Global) RecordExportError → Type 0
-AnswersTrace g events text (Ok t) = (events_refusal g events ≡ None) × (t.items ≡ text)
-AnswersTrace g events text (Err e) =
+AnswersTrace version g events text (Ok t) =
+    (events_refusal g events ≡ None) × (t.items ≡ text) × PrintsTimeline version g events t.items
+AnswersTrace version g events text (Err e) =
     (e ≡ OutOfMemory) ⊎ (option_map trace_fault (events_refusal g events) ≡ Some e)

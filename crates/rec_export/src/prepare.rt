@@ -12,6 +12,7 @@ ghost use Rattle.rec_store.specs.Reading.{IsReading, recorded};
 ghost use Rattle.rec_store.specs.Store.{store_entries};
 ghost use Rattle.rec_spans.specs.Plain.{plain};
 ghost use Rattle.rec_spans.specs.Refusals.{events_refusal};
+ghost use Rattle.rec_trace.specs.PrintedTimeline.{PrintsTimeline};
 ghost use Rattle.rec_errors.specs.declared.export_error.RecordExportError.TheVariants.{OutOfMemory};
 ghost use Rattle.rec_export.specs.Bundle.{AreOf, session_refusal, refusal_after};
 ghost use Rattle.rec_export.specs.Export.{CountsOf};
@@ -92,6 +93,9 @@ fn prepare_run<N: OutputNamer>(
         (recorded (N.number namer.now) settings.now.max_output head.now (events_of lines))) }
     ensures trace { IfOk result (λ p. p.trace.items
         ≡ run_trace settings.now head.now (events_of lines)) }
+    ensures printed { IfOk result
+        (λ p. PrintsTimeline head.now.nextest_version settings.now.group_by
+        (map plain (events_of lines)) p.trace.items) }
     ensures accepted { OnOk result
         (events_refusal settings.now.group_by (map plain (events_of lines)) ≡ None) }
     ensures valid { OnOk result

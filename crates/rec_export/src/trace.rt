@@ -83,7 +83,7 @@ impl SessionTrace {
         ensures { (format : ChromeTraceMessageFormat) (g : ChromeTraceGroupBy) (version : Parts)
             (events : List PlainEvent)
             → IsTraceOf format g version events self
-            → AnswersTrace g events (trace_text format g version events) result }
+            → AnswersTrace version g events (trace_text format g version events) result }
     {
         let SessionTrace { trace, refusal } = self;
         match refusal {

@@ -1,7 +1,7 @@
 -- The trace of a log, from what an iterator over its lines gives.
 use Rattle.std.proofs.Common.{◌≡◌, ◌⊎◌, inl, inr, ℕ, List, [], ◌∷◌, ◌++◌, map}
 use Rattle.std.proofs.Common.{Option, Some, None, option_map, Result, Ok, Err}
-use Rattle.std.proofs.Common.{IfOk, IfErr, Vec, Global, refl, sym, ap, ◌∙◌}
+use Rattle.std.proofs.Common.{IfOk, IfErr, Vec, Global, refl, sym, ap, ◌∙◌, subst}
 use Rattle.std.proofs.lemmas.List.{map-append}
 use Rattle.std.specs.Option.{option_or}
 use Rattle.semver.specs.Parse.{Parts}
@@ -21,6 +21,7 @@ use Rattle.rec_spans.specs.Plain.{plain}
 use Rattle.rec_spans.specs.Refusals.{events_refusal}
 use Rattle.rec_trace.specs.Converting.{Converts, HasNoTrace, IsRefused, IsUnread}
 use Rattle.rec_trace.specs.declared.settings.ChromeTraceMessageFormat.{ChromeTraceMessageFormat}
+use Rattle.rec_trace.specs.PrintedTimeline.{PrintsTimeline}
 use Rattle.rec_trace.specs.Traces.{trace_text}
 use Rattle.rec_program.specs.LogTraces.{TracesLog, log_refusal, log_trace, plain_log}
 
@@ -64,12 +65,15 @@ module _ (g : ChromeTraceGroupBy) (format : ChromeTraceMessageFormat) (version :
 
   drawn : (text : List ℕ) → Converts steps ls g format version text
       → (log_refusal g ls ≡ None) × (text ≡ log_trace g format version ls)
+      × PrintsTimeline version g (plain_log ls) text
   unfolding log_items log_trace
   drawn text c =
       let is = drained (event_form stored_outputs_form) c.events ls c.drained in
       let all : events_before_fault ls ≡ c.events = is.0 in (
         refusal-whole g ls is.1 ∙ ap (λ es. events_refusal g (map plain es)) all ∙ c.accepted,
         c.written ∙ ap (λ es. trace_text format g version (map plain es)) (sym all),
+        subst (λ (es : List RecordedEvent). PrintsTimeline version g (map plain es) text) (sym all)
+            c.printed,
       )
 
   unread : (e : ChromeTraceError) → IsUnread steps ls g e → log_refusal g ls ≡ Some e

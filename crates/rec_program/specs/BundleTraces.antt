@@ -1,5 +1,5 @@
 -- The trace that is printed of a bundle.
-use Rattle.std.specs.Prelude.{◌≡◌, ℕ, List, Option, None, Some, Result, Ok, Err}
+use Rattle.std.specs.Prelude.{◌≡◌, ⊤, ℕ, List, Option, None, Some, Result, Ok, Err}
 use Rattle.rec_container.specs.Container.{Entry}
 use Rattle.rec_container.specs.Reading.{◌>>=◌}
 use Rattle.rec_format.specs.declared.manifest.PortableManifest.{PortableManifest}
@@ -8,11 +8,12 @@ use Rattle.rec_portable.specs.OuterEntries.{log_part}
 use Rattle.rec_spans.specs.declared.errors.ChromeTraceError.{ChromeTraceError}
 use Rattle.rec_spans.specs.declared.settings.ChromeTraceGroupBy.{ChromeTraceGroupBy}
 use Rattle.rec_trace.specs.declared.settings.ChromeTraceMessageFormat.{ChromeTraceMessageFormat}
+use Rattle.rec_trace.specs.PrintedTimeline.{PrintsTimeline}
 use Rattle.rec_errors.specs.declared.reading_error.ReadingError.{ReadingError}
 use Rattle.rec_errors.specs.ReadingErrors.{trace_error}
 use Rattle.rec_reading.specs.LogLines.{log_lines}
 use Rattle.rec_reading.specs.RunParts.{of_bundle}
-use Rattle.rec_program.specs.LogTraces.{log_refusal, log_trace}
+use Rattle.rec_program.specs.LogTraces.{log_refusal, log_trace, plain_log}
 
 -- the text of a log's trace, unless the log is refused
 abbrev pub trace_unless : List ℕ → Option ChromeTraceError → Result (List ℕ) ReadingError
@@ -35,7 +36,17 @@ module _ (g : ChromeTraceGroupBy) (format : ChromeTraceMessageFormat) where
     log ← of_bundle (log_part limit es)
     trace_of_parts manifest log
 
--- what is printed of entries under a limit is what the function of them gives
+-- a text is one in which a viewer reads the timeline of the events of the log among these entries
+abbrev pub ShowsTimeline : ChromeTraceGroupBy → ℕ → List Entry → Result (List ℕ) ReadingError
+    → Type 0
+ShowsTimeline g limit es (Ok text) =
+    (manifest : PortableManifest) (log : List ℕ) → judged limit es ≡ Ok manifest
+    → log_part limit es ≡ Ok log
+    → PrintsTimeline manifest.run.nextest_version g (plain_log (log_lines log)) text
+ShowsTimeline g limit es (Err e) = ⊤
+
+-- what is printed of entries under a limit is what the function of them gives,
+-- and shows their timeline
 abbrev pub PrintsTrace : ChromeTraceGroupBy → ChromeTraceMessageFormat → ℕ → List Entry
     → Result (List ℕ) ReadingError → Type 0
-PrintsTrace g format limit es r = trace_of g format limit es ≡ r
+PrintsTrace g format limit es r = (trace_of g format limit es ≡ r) × ShowsTimeline g limit es r

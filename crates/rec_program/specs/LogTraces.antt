@@ -12,6 +12,7 @@ use Rattle.rec_spans.specs.declared.settings.ChromeTraceGroupBy.{ChromeTraceGrou
 use Rattle.rec_spans.specs.Plain.{PlainEvent, plain}
 use Rattle.rec_spans.specs.Refusals.{events_refusal}
 use Rattle.rec_trace.specs.declared.settings.ChromeTraceMessageFormat.{ChromeTraceMessageFormat}
+use Rattle.rec_trace.specs.PrintedTimeline.{PrintsTimeline}
 use Rattle.rec_trace.specs.Traces.{trace_text}
 
 -- the events of a log before the first line that fails, without outputs
@@ -30,10 +31,12 @@ unfoldable pub log_trace : ChromeTraceGroupBy → ChromeTraceMessageFormat → P
     → List ℕ
 log_trace g format version lines = trace_text format g version (plain_log lines)
 
--- a log that isn't refused is answered by the text of its trace; one that is, by why it is;
--- or memory ran out
+-- a log that isn't refused is answered by the text of its trace, in which a viewer reads the
+-- timeline of its events; one that is, by why it is; or memory ran out
 abbrev pub TracesLog : ChromeTraceGroupBy → ChromeTraceMessageFormat → Parts → List NumberedLine
     → Result (Vec ℕ Global) ChromeTraceError → Type 0
 TracesLog g format version lines (Ok text) =
-    (log_refusal g lines ≡ None) × (text.items ≡ log_trace g format version lines)
+    (log_refusal g lines ≡ None)
+    × (text.items ≡ log_trace g format version lines)
+    × PrintsTimeline version g (plain_log lines) text.items
 TracesLog g format version lines (Err e) = (e ≡ OutOfMemory) ⊎ (log_refusal g lines ≡ Some e)

@@ -21,6 +21,7 @@ ghost use Rattle.rec_replay.specs.declared.output_load.LoadOutput.{LoadOutput};
 ghost use Rattle.rec_salvage.specs.declared.salvaging.Salvaged.{Salvaged};
 ghost use Rattle.rec_salvage.specs.Refusals.{prefix_refusal};
 ghost use Rattle.rec_salvage.specs.Salvages.{Salvages};
+ghost use Rattle.rec_trace.specs.PrintedTimeline.{PrintsTimeline};
 ghost use Rattle.rec_slots.specs.declared.report.SlotReport.{SlotReport};
 ghost use Rattle.rec_slots.specs.Refusals.{Reports};
 ghost use Rattle.rec_reading.specs.Listing.{manifest_line, replay_of, report_of};
@@ -129,7 +130,8 @@ pub fn run_program<S: Source, B: Sink, T: Sink, G: Sink>(
 
     // Status 0 of `trace`: the source was read to its end, its bytes are a bundle, and `out` took
     // the text of the trace of its log, with the version of the runner that the manifest names. It
-    // draws the timeline of the events of the log, as that of a recording does.
+    // draws the timeline of the events of the log, and a viewer reads this timeline in it, as in
+    // that of a recording.
     ensures traced { (settings : Settings)
         → command (texts words.now) ≡ Ok (tracing settings)
         → result ≡ 0
@@ -140,6 +142,9 @@ pub fn run_program<S: Source, B: Sink, T: Sink, G: Sink>(
         × (log_part settings.read_limit es ≡ Ok log)
         × (log_refusal settings.group_by (log_lines log) ≡ None)
         × DrawsTimeline manifest.run.nextest_version settings.group_by (plain_log (log_lines log))
+        × PrintsTimeline manifest.run.nextest_version settings.group_by
+        (plain_log (log_lines log))
+        (bundle_trace settings.group_by settings.message_format manifest log)
         × Appends (T.taken out.old) (T.taken out.new)
         (bundle_trace settings.group_by settings.message_format manifest log) }
 

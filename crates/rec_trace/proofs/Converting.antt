@@ -29,6 +29,7 @@ use Rattle.rec_trace.specs.Converting.{AddsItem, Converts, HasNoTrace}
 use Rattle.rec_trace.specs.declared.printed_trace.PrintedTrace.{PrintedTrace}
 use Rattle.rec_trace.specs.declared.settings.ChromeTraceMessageFormat.{ChromeTraceMessageFormat}
 use Rattle.rec_trace.specs.Histories.{known_of}
+use Rattle.rec_trace.specs.PrintedTimeline.{PrintsTimeline}
 use Rattle.rec_trace.specs.Traces.{HasTraced, trace_text}
 
 -- the builder has traced the events that these items hold
@@ -163,8 +164,10 @@ module _ (format : ChromeTraceMessageFormat) (g : ChromeTraceGroupBy) (version :
     pub converts-all : (text : List ℕ) → steps mid None rest →
         ((f : ChromeTraceMessageFormat) (k : ChromeTraceGroupBy) (v : Parts)
         (past : List PlainEvent) → HasTraced f k v past b → text ≡ trace_text f k v past)
+        → ((f : ChromeTraceMessageFormat) (k : ChromeTraceGroupBy) (v : Parts)
+        (past : List PlainEvent) → HasTraced f k v past b → PrintsTimeline v k past text)
         → Converts steps s g format version text
-    converts-all text step written =
+    converts-all text step written printed =
         let events = converted.0 in
         let has = converted.2 in
         record {
@@ -180,6 +183,7 @@ module _ (format : ChromeTraceMessageFormat) (g : ChromeTraceGroupBy) (version :
           );
           accepted = has.tracer.accepted;
           written = written format g version (map plain events) has;
+          printed = printed format g version (map plain events) has;
           marks = marks-of-trace version g (map plain events);
           timeline = timeline g (map plain events) has.tracer.accepted;
           times = times-add_up g (map plain events) has.tracer.accepted;

@@ -20,8 +20,15 @@ pub mod PastOfHistory
 pub mod Prefixes
 pub mod PrettyTokens
 pub mod PrintedEvents
+pub mod PrintedTimelines
 pub mod Printing
 pub mod Pushes
+pub mod ReadArrows
+pub mod ReadEvents
+pub mod ReadGroupings
+pub mod ReadPlaces
+pub mod ReadTexts
+pub mod ReadTurns
 pub mod Refusals
 pub mod Same
 pub mod Taking

@@ -28,6 +28,7 @@ use Rattle.rec_trace.specs.Groupings.{all_ungrouped}
 use Rattle.rec_trace.specs.Histories.{known_of, trace_drawn}
 use Rattle.rec_trace.specs.Naming.{all_named}
 use Rattle.rec_trace.specs.Places.{IsKnownByPlaces}
+use Rattle.rec_trace.specs.PrintedTimeline.{PrintsTimeline}
 use Rattle.rec_trace.specs.Table.{drawn}
 use Rattle.rec_trace.specs.Traces.{HasTraced, Traces, trace_text}
 
@@ -45,12 +46,12 @@ MarksOfEach version g events =
     marks_of (drawn version g (state_after (after [] (history g before))) (known_of g before) event)
     ≡ next_marks (state_after (after [] (history g before))) (next_input g (history g before) event)
 
--- The iterator gave events and ended, and the text is that of their trace. Its begins and ends are
--- the marks of the events, which are their timeline and add up. Both groupings accept the same
--- events, and draw the same but for the names of processes and rows, the pids of the rows of tests,
--- and the names of their slices. Its arrows pair. Each event draws the marks of its spans; what it
--- draws beside them is decided by the positions of the events before it;
--- and each process and each row is named once
+-- The iterator gave events and ended, and the text is that of their trace, in which a viewer reads
+-- their timeline. Its begins and ends are the marks of the events, which are their timeline and add
+-- up. Both groupings accept the same events, and draw the same but for the names of processes and
+-- rows, the pids of the rows of tests, and the names of their slices. Its arrows pair. Each event
+-- draws the marks of its spans; what it draws beside them is decided by the positions of the events
+-- before it; and each process and each row is named once
 pub record Converts {S : Type 0} (steps : S → Option (Result RecordedEvent LineError) → S → Type 0)
     (s : S) (g : ChromeTraceGroupBy) (format : ChromeTraceMessageFormat) (version : Parts)
     (text : List ℕ) : Type 0 where
@@ -58,6 +59,7 @@ pub record Converts {S : Type 0} (steps : S → Option (Result RecordedEvent Lin
   pub drained : Drains steps s (map Ok events)
   pub accepted : events_refusal g (map plain events) ≡ None
   pub written : text ≡ trace_text format g version (map plain events)
+  pub printed : PrintsTimeline version g (map plain events) text
   pub marks : marks_of (trace_drawn version g (map plain events))
       ≡ trace_marks (history g (map plain events))
   pub timeline : IsTimeline (history g (map plain events))

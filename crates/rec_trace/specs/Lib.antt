@@ -13,6 +13,13 @@ pub mod KnownMaps
 pub mod KnownNews
 pub mod Naming
 pub mod Places
+pub mod PrintedTimeline
+pub mod ReadArrows
+pub mod ReadDrawn
+pub mod ReadGroupings
+pub mod ReadPlaces
+pub mod ReadTexts
+pub mod ReadTurns
 pub mod Standing
 pub mod Steps
 pub mod Table

@@ -11,6 +11,7 @@ pub mod laws;
 mod layout;
 mod other_data;
 mod printed;
+pub mod printed_laws;
 mod printed_trace;
 mod putting;
 mod run_start;

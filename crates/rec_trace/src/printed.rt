@@ -1,6 +1,7 @@
 //! Keeps the texts of the trace events so far.
 ghost use Rattle.std.specs.Prelude.{◌≡◌, List, [], ◌++◌, map, IfOk, OnOk, OnErr};
 ghost use Rattle.serde_json.specs.Data.{Data};
+ghost use Rattle.rec_forms.specs.Writable.{IsWritable};
 ghost use Rattle.rec_trace_events.specs.EventTexts.{event_value};
 ghost use Rattle.rec_trace.specs.declared.settings.ChromeTraceMessageFormat.{
   ChromeTraceMessageFormat,
@@ -90,10 +91,11 @@ impl Printed {
         version: &Version,
         last_run: &Option<RunStart>,
     ) -> Result<Vec<u8>, AllocError>
-        ensures { IfOk result
+        ensures written { IfOk result
             (λ s. (format : ChromeTraceMessageFormat) (events : List Data)
             → AreKept format events self
             → s.items ≡ text_in format (trace_value (other_data version.now last_run.now) events)) }
+        ensures known { IfOk result (λ s. IsWritable 8 (other_data version.now last_run.now)) }
     {
         let Printed {
             format,

@@ -9,6 +9,7 @@ ghost use Rattle.rec_trace.specs.declared.settings.ChromeTraceMessageFormat.{
 };
 ghost use Rattle.rec_trace.specs.declared.tracer.Tracer.{Tracer};
 ghost use Rattle.rec_trace.specs.KnownNews.{HasRoom};
+ghost use Rattle.rec_trace.specs.PrintedTimeline.{PrintsTimeline};
 ghost use Rattle.rec_trace.specs.Steps.{IsNumbered, IsPrepared};
 ghost use Rattle.rec_trace.specs.Traces.{HasTraced, Prints, Traces, trace_text};
 
@@ -106,11 +107,16 @@ impl PrintedTrace {
     ///
     /// Fails only where memory ran out.
     pub fn into_bytes(self, alloc: Global) -> Result<Vec<u8>, AllocError>
-        ensures { IfOk result
+        ensures written { IfOk result
             (λ text. (format : ChromeTraceMessageFormat) (g : ChromeTraceGroupBy) (version : Parts)
             (events : List PlainEvent)
             → HasTraced format g version events self
             → text.items ≡ trace_text format g version events) }
+        ensures printed { IfOk result
+            (λ text. (format : ChromeTraceMessageFormat) (g : ChromeTraceGroupBy) (version : Parts)
+            (events : List PlainEvent)
+            → HasTraced format g version events self
+            → PrintsTimeline version g events text.items) }
     {
         let PrintedTrace { tracer, printed } = self;
         let text = printed.into_bytes(alloc, tracer.version(), tracer.last_run());

@@ -10,6 +10,7 @@ mod error_args;
 mod event;
 mod event_parts;
 mod instants;
+pub mod laws;
 mod members;
 mod metadata;
 mod row_names;

@@ -6,6 +6,7 @@ use Rattle.rec_store.specs.Bundle.{outputs_stored, run_bundle}
 use Rattle.rec_store.specs.Reading.{IsReading, recorded}
 use Rattle.rec_spans.specs.Plain.{plain}
 use Rattle.rec_spans.specs.Refusals.{events_refusal}
+use Rattle.rec_trace.specs.PrintedTimeline.{PrintsTimeline}
 use Rattle.rec_errors.specs.declared.export_error.RecordExportError.TheVariants.{OutOfMemory}
 use Rattle.rec_errors.specs.declared.export_error.RecordExportError.{RecordExportError}
 use Rattle.rec_export.proofs.Judging.{after_head, events_after, refused_head}
@@ -16,12 +17,12 @@ use Rattle.rec_export.specs.Prepared.{prepared_bundle}
 use Rattle.rec_export.specs.Session.{event_lines, events_of, head_text}
 use Rattle.rec_export.specs.SessionTraces.{run_trace}
 
--- five facts of an answer make a sixth
-joined : {T E V W : Type 0} {P Q A R : T → Type 0} (r : Result T E)
-    → ((x : T) → P x → Q x → A x → V → W → R x) → IfOk r P → IfOk r Q → IfOk r A → OnOk r V
-    → OnOk r W → IfOk r R
-joined (Ok x) f p q a v w = f x p q a v w
-joined (Err e) f p q a v w = tt
+-- six facts of an answer make a seventh
+joined : {T E V W : Type 0} {P Q A B R : T → Type 0} (r : Result T E)
+    → ((x : T) → P x → Q x → A x → B x → V → W → R x)
+    → IfOk r P → IfOk r Q → IfOk r A → IfOk r B → OnOk r V → OnOk r W → IfOk r R
+joined (Ok x) f p q a b v w = f x p q a b v w
+joined (Err e) f p q a b v w = tt
 
 -- four facts make a fifth
 counted : {T E : Type 0} {P Q A V R : T → Type 0} (r : Result T E)
@@ -50,7 +51,8 @@ returns-clause-texts g c =
     let has_head = ap head_in (sym text) ∙ c.in_ok-head.ensures.head in
     let lines = c.drop_first.ensures ∙ ap event_lines c.in_ok-lines.ensures in
     let events = ap events_of lines ∙ events_after session in
-    joined c.prepare_run-result.result (λ prepared spelled reads traced valid accepted. record {
+    joined c.prepare_run-result.result
+    (λ prepared spelled reads traced printed valid accepted. record {
       head = head;
       has_head = has_head;
       valid =
@@ -66,10 +68,14 @@ returns-clause-texts g c =
           draws_timeline head.nextest_version settings.group_by (map plain (session_events session))
           (subst (λ (es : List LiveEvent). events_refusal settings.group_by (map plain es) ≡ None)
           events accepted);
+      printed =
+          subst (λ (es : List LiveEvent).
+          PrintsTimeline head.nextest_version settings.group_by (map plain es) prepared.trace.items)
+          events printed;
     }) c.prepare_run-result.ensures.bundle
     (c.prepare_run-result.ensures.reads c.in_ok-head.ensures.known)
-    c.prepare_run-result.ensures.trace c.prepare_run-result.ensures.valid
-    c.prepare_run-result.ensures.accepted
+    c.prepare_run-result.ensures.trace c.prepare_run-result.ensures.printed
+    c.prepare_run-result.ensures.valid c.prepare_run-result.ensures.accepted
 
 pub returns-clause-counts : goal.returns-clause-counts
 returns-clause-counts g c =

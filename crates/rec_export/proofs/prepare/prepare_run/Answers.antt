@@ -108,6 +108,12 @@ returns-clause-trace g c =
     (c.in_ok-trace.ensures settings.message_format settings.group_by c.args.head.now.nextest_version
     (map plain (events_of c.args.lines)) c.in_ok-run.ensures.traced).1
 
+pub returns-clause-printed : goal.returns-clause-printed
+returns-clause-printed g c =
+    let settings = c.args.settings.now in
+    (c.in_ok-trace.ensures settings.message_format settings.group_by c.args.head.now.nextest_version
+    (map plain (events_of c.args.lines)) c.in_ok-run.ensures.traced).2
+
 pub returns-clause-accepted : goal.returns-clause-accepted
 returns-clause-accepted g c =
     let settings = c.args.settings.now in

@@ -27,4 +27,4 @@ returns c = λ es is.
     the_trace bundle.limit bundle.bytes c.manifest-manifest.result.now
     c.manifest-manifest.ensures.judged es is c.args.group_by c.args.message_format
     c.in_ok-log.log (c.in_ok-log.ensures es is)
-    c.events.result c.events.ensures c.in_ok-text.text.items traced.0 traced.1
+    c.events.result c.events.ensures c.in_ok-text.text.items traced.0 traced.1 traced.2

@@ -35,4 +35,5 @@ returns-clause-trace g c =
     c.loop-item.yielded c.loop-item.invariant.converted
     g.I.Iterator.next_gives c.args.events c.into_iter-item-iterator.result c.loop-item.item-iterator
     c.next.new.self c.into_iter-item-iterator.ensures.into_iter_gives c.loop-item.yielded_by
-    c.in_ok-text.text.items c.in-None.ensures.steps c.in_ok-text.ensures
+    c.in_ok-text.text.items c.in-None.ensures.steps c.in_ok-text.ensures.written
+    c.in_ok-text.ensures.printed

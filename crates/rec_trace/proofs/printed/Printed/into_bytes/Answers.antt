@@ -4,8 +4,11 @@ use Rattle.rec_trace.proofs.TraceTexts.{trace-parts}
 use Rattle.rec_trace.specs.Kept.{has_some}
 use Rattle.rec_trace.specs.Texts.{event_texts, other_data, trace_end, trace_prefix}
 
-pub returns : goal.returns
-returns c = λ format events are.
+pub returns-clause-known : goal.returns-clause-known
+returns-clause-known c = c.in_ok-other_data.ensures.known
+
+pub returns-clause-written : goal.returns-clause-written
+returns-clause-written c = λ format events are.
     let other = other_data c.args.version.now c.args.last_run.now in
     let prefix : c.deref-2.result.now ≡ trace_prefix format other =
     c.deref-2.ensures.value ∙ c.in_ok-prefix.ensures other
