@@ -1,4 +1,5 @@
-//! Laws of the JSON of a trace, as a viewer reads it. The functions do nothing: their contracts are what they are for.
+//! Laws of the JSON of a trace, as a viewer reads it. The functions do nothing:
+//! their contracts are what they are for.
 ghost use Rattle.std.specs.List.{flat_map};
 ghost use Rattle.std.specs.Prelude.{◌≡◌, ℕ, List, [], ◌++◌, map, Some, None};
 ghost use Rattle.semver.specs.Parse.{Parts};
@@ -14,7 +15,9 @@ ghost use Rattle.rec_spans.specs.Past.{in_row, is_paused, open_spans};
 ghost use Rattle.rec_spans.specs.Plain.{PlainEvent};
 ghost use Rattle.rec_spans.specs.Refusals.{events_refusal};
 ghost use Rattle.rec_spans.specs.Turns.{left_open};
-ghost use Rattle.rec_trace.specs.declared.settings.ChromeTraceMessageFormat.{ChromeTraceMessageFormat};
+ghost use Rattle.rec_trace.specs.declared.settings.ChromeTraceMessageFormat.{
+  ChromeTraceMessageFormat,
+};
 ghost use Rattle.rec_trace.specs.Drawn.{Drawn, all_events, marks_of};
 ghost use Rattle.rec_trace.specs.Histories.{trace_drawn};
 ghost use Rattle.rec_trace.specs.Kept.{AreWritable};
@@ -35,7 +38,8 @@ pub fn readable()
     ensures drawn { (ds : List Drawn) → events_read (all_events ds) ≡ all_read ds }
 {}
 
-/// States that the begins and ends that are read of a trace are its marks, so no other event is read as one.
+/// States that the begins and ends that are read of a trace are its marks,
+/// so no other event is read as one.
 pub fn slices()
     ensures drawn { (ds : List Drawn) → slices_read (all_events ds) ≡ map read_mark (marks_of ds) }
     ensures history { (version : Parts) (group : ChromeTraceGroupBy) (events : List PlainEvent)
@@ -47,7 +51,8 @@ pub fn slices()
         ≡ map read_mark (next_marks state (trace_input group state.binaries event)) }
 {}
 
-/// States that each prefix of a history that has a trace shows the first of the events that the whole shows.
+/// States that each prefix of a history that has a trace shows the first of the events that the
+/// whole shows.
 pub fn prefixes()
     ensures { (version : Parts) (group : ChromeTraceGroupBy) (events : List PlainEvent)
         → events_refusal group events ≡ None
@@ -56,8 +61,8 @@ pub fn prefixes()
         ≡ all_events (trace_drawn version group xs) ++ more) }
 {}
 
-/// States that on each row the begins and ends that are read of a trace alternate, each end with the name of its begin,
-/// and what is left open is the span that is open there.
+/// States that on each row the begins and ends that are read of a trace alternate, each end with
+/// the name of its begin, and what is left open is the span that is open there.
 pub fn turns()
     ensures { (version : Parts) (group : ChromeTraceGroupBy) (events : List PlainEvent) (row : Row)
         → events_refusal group events ≡ None
@@ -67,8 +72,8 @@ pub fn turns()
         (in_row row (open_spans (after [] (history group events))))) }
 {}
 
-/// States that the starts and finishes of arrows that are read of a trace are those that are drawn, so no other event
-/// is read as one, and that they pair.
+/// States that the starts and finishes of arrows that are read of a trace are those that are drawn,
+/// so no other event is read as one, and that they pair.
 pub fn arrows()
     ensures drawn { (ds : List Drawn) → arrows_read (all_events ds) ≡ flat_map drawn_arrow ds }
     ensures paired { (version : Parts) (group : ChromeTraceGroupBy) (events : List PlainEvent)
@@ -76,8 +81,9 @@ pub fn arrows()
         → ReadArrowsPair (ends_read (all_events (trace_drawn version group events))) }
 {}
 
-/// States that in a history with a trace each arrow that is read starts where and when a slice ended before it, and
-/// finishes where and when one began before it, and that the args of both slices name one test.
+/// States that in a history with a trace each arrow that is read starts where and when a slice
+/// ended before it, and finishes where and when one began before it,
+/// and that the args of both slices name one test.
 pub fn arrows_at_slices()
     ensures { (version : Parts) (group : ChromeTraceGroupBy) (events : List PlainEvent)
         → events_refusal group events ≡ None
@@ -93,8 +99,8 @@ pub fn texts()
         → events_in (text_in format (trace_value other events)) ≡ Some events }
 {}
 
-/// States that both groupings show the same of any events, as it is read, but for the metadata, the pids of the rows of
-/// tests, and the names of their slices.
+/// States that both groupings show the same of any events, as it is read, but for the metadata, the
+/// pids of the rows of tests, and the names of their slices.
 pub fn groupings()
     ensures { (version : Parts) (events : List PlainEvent)
         → all_ungrouped_read (events_read (all_events (trace_drawn version Binary events)))

@@ -1,5 +1,5 @@
-//! Laws of trace events: what a viewer reads in their JSON. The functions do nothing: their contracts are what they
-//! are for.
+//! Laws of trace events: what a viewer reads in their JSON. The functions do nothing: their
+//! contracts are what they are for.
 ghost use Rattle.std.specs.Prelude.{◌≡◌, ℕ, ℤ, Bool, List, [], ◌∷◌, Option, None, Some, codes, map};
 ghost use Rattle.serde_json.specs.Data.{Data};
 ghost use Rattle.rec_events.specs.declared.instances.OwnedTestInstanceId.{OwnedTestInstanceId};
@@ -15,10 +15,17 @@ ghost use Rattle.rec_trace_events.specs.declared.instants.RunMark.{RunMark};
 ghost use Rattle.rec_trace_events.specs.declared.rows.Category.TheVariants as categories;
 ghost use Rattle.rec_trace_events.specs.declared.rows.Category.{Category};
 ghost use Rattle.rec_trace_events.specs.declared.rows.Row.{Row};
-ghost use Rattle.rec_trace_events.specs.ReadEvents.{args_at, arrow_read, count_in_args, counter_read, event_read, metadata_read, plain_read, test_in, text_in_args};
-ghost use Rattle.rec_trace_events.specs.TraceEvents.{arrow_finish, arrow_start, begin_event, category_text, concurrency_event, end_event, mark_event, mark_name, process_metadata, process_row, results_event, run_row, slow_event, thread_metadata};
+ghost use Rattle.rec_trace_events.specs.ReadEvents.{args_at, arrow_read, count_in_args};
+ghost use Rattle.rec_trace_events.specs.ReadEvents.{counter_read, event_read, metadata_read};
+ghost use Rattle.rec_trace_events.specs.ReadEvents.{plain_read, test_in, text_in_args};
+ghost use Rattle.rec_trace_events.specs.TraceEvents.{arrow_finish, arrow_start, begin_event};
+ghost use Rattle.rec_trace_events.specs.TraceEvents.{category_text, concurrency_event, end_event};
+ghost use Rattle.rec_trace_events.specs.TraceEvents.{mark_event, mark_name, process_metadata};
+ghost use Rattle.rec_trace_events.specs.TraceEvents.{process_row, results_event, run_row};
+ghost use Rattle.rec_trace_events.specs.TraceEvents.{slow_event, thread_metadata};
 
-/// States that the begin and the end of a slice are read as such, with their name, category, row, instant and args.
+/// States that the begin and the end of a slice are read as such, with their name, category,
+/// row, instant and args.
 pub fn slices_are_read()
     ensures begins { (name : List ℕ) (category : Category) (row : Row) (at : ℤ)
         (args : Option Data)
@@ -44,8 +51,8 @@ pub fn categories_are_read()
     ensures test { category_text categories.Test ≡ codes "test" }
 {}
 
-/// States that the metadata of a process and of a row are read with the name, and with the place among others, which
-/// is the number.
+/// States that the metadata of a process and of a row are read with the name, and with the place
+/// among others, which is the number.
 pub fn names_are_read()
     ensures process { (pid : ℕ) (name : List ℕ)
         → map event_read (process_metadata pid name)
@@ -85,7 +92,8 @@ pub fn counters_are_read()
         × (count_in_args (codes "failed") (results_event counts at) ≡ Some counts.failed) }
 {}
 
-/// States that the marks of the run, and what is slow, are read as instants, with what runs then or with their args.
+/// States that the marks of the run, and what is slow, are read as instants,
+/// with what runs then or with their args.
 pub fn instants_are_read()
     ensures mark { (mark : RunMark) (counts : RunningCounts) (at : ℤ)
         → event_read (mark_event mark counts at)
@@ -105,7 +113,8 @@ pub fn instants_are_read()
         → args_at (slow_event category row at args) ≡ Some args }
 {}
 
-/// States that the start and the finish of an arrow are read as such, with their row, instant and number.
+/// States that the start and the finish of an arrow are read as such, with their row,
+/// instant and number.
 pub fn arrows_are_read()
     ensures starts { (row : Row) (at : ℤ) (number : ℕ)
         → event_read (arrow_start row at number) ≡ Some (arrow_read (codes "s") row at number) }
