@@ -6,7 +6,8 @@ use Rattle.rec_store.specs.Recording.{Recording}
 use Rattle.rec_store.specs.Saved.{AcceptsEvent}
 use Rattle.rec_live.specs.Accepted.{HasCounted}
 
-module _ {S L N : Type 0} (taken : S → Option (List ℕ)) (log_taken : L → Option (List ℕ)) (number : N → List ℕ → ℕ) where
+module _ {S L N : Type 0} (taken : S → Option (List ℕ)) (log_taken : L → Option (List ℕ))
+    (number : N → List ℕ → ℕ) where
   pub one_more : (count : ℕ) (old new : Recording S L N) (event : LiveEvent)
       → AcceptsEvent taken log_taken number old new event (Ok tt)
       → HasCounted taken log_taken number count old

@@ -4,7 +4,8 @@ use Rattle.rec_codec.specs.Event.{LiveEvent}
 use Rattle.rec_store.specs.Recording.{Recording}
 use Rattle.rec_store.specs.Saved.{HasAccepted}
 
-module _ {S L N : Type 0} (taken : S → Option (List ℕ)) (log_taken : L → Option (List ℕ)) (number : N → List ℕ → ℕ) where
+module _ {S L N : Type 0} (taken : S → Option (List ℕ)) (log_taken : L → Option (List ℕ))
+    (number : N → List ℕ → ℕ) where
   -- since its sinks were empty a recorder has accepted so many events
   pub record HasCounted (count : ℕ) (r : Recording S L N) : Type 0 where
     pub events : List LiveEvent

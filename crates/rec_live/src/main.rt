@@ -1,5 +1,5 @@
-//! Records the run of a session into a directory, event by event, as a test runner does: it shows what is
-//! left where a recorder is stopped.
+//! Records the run of a session into a directory, event by event, as a test runner does: it shows
+//! what is left where a recorder is stopped.
 //!
 //! The one word is the directory, which has to be there. The session is read from standard input.
 //! As soon as the run's metadata is accepted, and after each event that is, a line on standard

@@ -29,7 +29,7 @@ pub fn read_session<S: Source>(alloc: Global, source: &mut S) -> Result<Vec<u8>,
     Ok(read_within(alloc, SESSION_LIMIT, source)?)
 }
 
-/// Records the head of a session and its events, and prints after each how many events were accepted.
+/// Records the head of a session and its events, and prints after each how many were accepted.
 pub fn record_session<S: Sink, L: Sink, N: OutputNamer, O: Sink>(
     alloc: Global,
     session: &[u8],
