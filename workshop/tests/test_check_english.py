@@ -1,0 +1,109 @@
+"""Plain English: which sentences are too long, and which words a reader has to decode."""
+
+from __future__ import annotations
+
+import pathlib
+
+import pytest
+
+from workshop import TOP, check_english
+from workshop.check_english import KEPT, LONGEST_SENTENCE, faults, long_sentences, obscure_words
+
+SHORT = "word " * (LONGEST_SENTENCE - 1) + "end."
+LONG = "word " * LONGEST_SENTENCE + "end."
+
+
+@pytest.mark.parametrize(
+    ("page", "lines"),
+    [
+        (SHORT, []),
+        (LONG, [1]),
+        (f"{SHORT} {SHORT}\n{LONG}", [2]),
+        (f"Is it? {LONG} {SHORT}", [1]),
+        (f"It is.\n\n- {SHORT}\n- {LONG}\n1. {LONG}", [4, 5]),
+        (LONG.replace(" word", "\nword"), [1]),
+        (f"{SHORT.rstrip('.')}:\n\n- {SHORT}", []),
+        (f"# {SHORT.rstrip('.')}\n{SHORT}", []),
+        (f"```\n{LONG}\n```\n{LONG}", [4]),
+        (f"{SHORT.rstrip('.')}\n```\n{SHORT}\n```\n{SHORT}", []),
+        (f"| {SHORT} | {SHORT} |\n| {SHORT} | {LONG} |", [2]),
+        (f"| `{LONG}` | {SHORT.rstrip('.')} `and this` |", []),
+        (SHORT.replace("end", "`a. b c`"), []),
+        (LONG.replace("end", "`a. b c`"), [1]),
+        (SHORT.replace("end", "[the end](docs/END.md#a-b)"), [1]),
+        (f"{SHORT.rstrip('.')} - .", []),
+        ("", []),
+    ],
+)
+def test_long_sentences(page: str, lines: list[int]) -> None:
+    assert [finding.line for finding in long_sentences(page)] == lines
+
+
+def test_a_long_sentence_says_its_words() -> None:
+    (finding,) = long_sentences(LONG)
+    assert finding.what == "a sentence of 26 words"
+
+
+@pytest.mark.parametrize(
+    ("page", "found"),
+    [
+        ("It is no page.", ["is no"]),
+        ("There are no pages.", ["are no"]),
+        ("It is no longer here, there are no more.", []),
+        ("It has no name where it has none.", ["has no name where"]),
+        ("A name that takes a name and Takes it.", ["takes", "Takes"]),
+        ("Written anew from\nthe begin, of\nwhich it is made.", ["anew", "the begin", "of which"]),
+        ("From the beginning of witches.", []),
+        ("| `is no` | a proper prefix |", ["proper prefix"]),
+        ("`takes` and `so\nmany`", []),
+        ("```\ntakes\n```", []),
+        ("Want of memory is a fault of the outside.", ["Want of memory", "fault of the outside"]),
+    ],
+)
+def test_obscure_words(page: str, found: list[str]) -> None:
+    assert [finding.what for finding in obscure_words(page)] == [f"`{word}`" for word in found]
+
+
+def test_an_obscure_word_says_its_line() -> None:
+    assert [finding.line for finding in obscure_words("One.\nTwo is\nno\nnumber.")] == [2]
+
+
+@pytest.fixture
+def top(tmp_path: pathlib.Path) -> pathlib.Path:
+    """Make a folder with two pages, of which one is in docs."""
+    (tmp_path / "docs").mkdir()
+    (tmp_path / "README.md").write_text("It is short.\n")
+    (tmp_path / "docs/A.md").write_text(f"{LONG}\n{LONG}\nIt takes none.\n")
+    return tmp_path
+
+
+def test_what_is_kept_is_not_printed(top: pathlib.Path) -> None:
+    assert not list(faults(top, {"docs/A.md": (2, 1)}))
+
+
+def test_a_page_that_is_not_named_has_none(top: pathlib.Path) -> None:
+    assert list(faults(top, {})) == [
+        "docs/A.md:1: a sentence of 26 words",
+        "docs/A.md:2: a sentence of 26 words",
+        "docs/A.md: 2 long sentences, at most 0",
+        "docs/A.md:3: `takes`",
+        "docs/A.md: 1 obscure words, at most 0",
+    ]
+
+
+def test_the_status_says_whether_there_are_too_many(
+    top: pathlib.Path, monkeypatch: pytest.MonkeyPatch, capsys: pytest.CaptureFixture[str]
+) -> None:
+    monkeypatch.setattr(check_english, "TOP", top)
+    monkeypatch.setattr("sys.argv", ["check_english"])
+    monkeypatch.setattr(check_english, "KEPT", {"docs/A.md": (2, 1)})
+    assert check_english.main() == 0
+    monkeypatch.setattr(check_english, "KEPT", {"docs/A.md": (2, 0)})
+    assert check_english.main() == 1
+    assert (
+        capsys.readouterr().out == "docs/A.md:3: `takes`\ndocs/A.md: 1 obscure words, at most 0\n"
+    )
+
+
+def test_the_table_names_pages() -> None:
+    assert all((TOP / name).is_file() for name in KEPT)
