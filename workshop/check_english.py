@@ -31,7 +31,6 @@ KEPT: Mapping[str, tuple[int, int]] = {
     "docs/CONTRIBUTING.md": (33, 12),
     "docs/DECISIONS.md": (115, 71),
     "docs/DIFFERENCES.md": (5, 12),
-    "docs/FORMATS.md": (44, 30),
     "docs/PERFORMANCE.md": (19, 16),
     "docs/PROOFS.md": (159, 209),
     "docs/PROVING.md": (124, 85),
@@ -46,8 +45,9 @@ BEGINNING = re.compile(rf"{TABLE_ROW.pattern}|{HEADING.pattern}| *(?:[-*]|\d+\.)
 OBSCURE = re.compile(
     r"""\b(?:
     wants?\ of\ memory | for\ the\ cause | exactly\ where
-    | (?:is|are)\ no(?!\ longer|\ more) | has\ no\ \w+\ where
-    | anew | the\ begins? | so\ many | of\ which | by\ a\ call | as\ it\ was | those\ that
+    | (?<!there\ )(?:is|are)\ no(?!\ longer|\ more) | has\ no\ \w+\ where
+    | the\ begins?(?!\ (?:and\ end\ )?events?)
+    | anew | so\ many | of\ which | by\ a\ call | as\ it\ was | those\ that
     | what\ becomes\ of | (?:object|input|stream|sink|source)\ faults | faults?\ of\ the\ outside
     | takes | gives | hands?\ on | lets\ go | is\ heard | proper\ prefix | changes\ nothing
     )\b""",
