@@ -29,7 +29,6 @@ KEPT: Mapping[str, tuple[int, int]] = {
     "docs/CI.md": (4, 6),
     "docs/CLI.md": (83, 56),
     "docs/CONTRIBUTING.md": (33, 12),
-    "docs/DECISIONS.md": (115, 71),
     "docs/PERFORMANCE.md": (19, 16),
     "docs/PROOFS.md": (159, 209),
     "docs/PROVING.md": (124, 85),
