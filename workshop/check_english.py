@@ -28,7 +28,6 @@ KEPT: Mapping[str, tuple[int, int]] = {
     "docs/ARCHITECTURE.md": (43, 33),
     "docs/CLI.md": (83, 56),
     "docs/CONTRIBUTING.md": (33, 12),
-    "docs/PERFORMANCE.md": (19, 16),
     "docs/PROOFS.md": (159, 209),
     "docs/PROVING.md": (124, 85),
 }
