@@ -47,7 +47,7 @@ def main() -> int:
         place = words.index("--")
         words, given = words[:place], words[place + 1 :]
     parser = command_line(__doc__)
-    parser.usage = "run_again.py [-h] [-- WORDS OF CARGO TEST]"
+    parser.usage = "run_again [-h] [-- WORDS OF CARGO TEST]"
     parser.parse_args(words)
     try:
         plan = rerun_plan.read(input_stream().read().decode("utf-8", "surrogateescape"))

@@ -206,7 +206,7 @@ class EventWriter:
     def _skipped(self, step: Step) -> JsonObject:
         """Return the event of a skipped test.
 
-        No reader of a session keeps why the test is ignored, but `junit_xml.py` says it.
+        No reader of a session keeps why the test is ignored, but `junit_xml` says it.
         """
         self.counts["skipped"] += 1
         message: JsonObject = {"message": step.test.reason} if step.test.reason else {}
