@@ -69,6 +69,41 @@ def outline(phases: str, lines: str) -> Holds:
     )
 
 
+def process_named(pid: int, name: str) -> str:
+    """The outline of a process that gets its name."""
+    return (
+        f'M :process_name {pid}/0 0 {{"name":"{name}"}}\n'
+        f'M :process_sort_index {pid}/0 0 {{"sort_index":{pid}}}\n'
+    )
+
+
+def row_named(pid: int, tid: int, name: str) -> str:
+    """The outline of a row that gets its name."""
+    return (
+        f'M :thread_name {pid}/{tid} 0 {{"name":"{name}"}}\n'
+        f'M :thread_sort_index {pid}/{tid} 0 {{"sort_index":{tid}}}\n'
+    )
+
+
+RUN_NAMED = process_named(0, "nextest run (default)") + row_named(0, 1, "run")
+FIRST_TEST_NAMED = process_named(2, "alpha::a") + row_named(2, 10000, "slot-0")
+
+
+def concurrency(first: int, running: str) -> str:
+    """The outline of what runs at each second from the first on, as SCRIPTS/TESTS."""
+    counts = [count.split("/") for count in running.split()]
+    return "".join(
+        f"C run:concurrency 0/0 {secs}000000 "
+        f'{{"running_scripts":{scripts},"running_tests":{tests}}}\n'
+        for secs, (scripts, tests) in enumerate(counts, first)
+    )
+
+
+def failures(secs: int, failed: int) -> str:
+    """The outline of the results at this second, where so many tests failed."""
+    return f'C run:test results 0/0 {secs}000000 {{"failed":{failed},"flaky":0,"passed":0}}\n'
+
+
 def after(before: bytes, lines: str) -> Holds:
     """A trace that has the trace events of an earlier one, and then these, each in a line."""
     earlier = events_of(before)

@@ -28,7 +28,14 @@ from workshop.cases.histories import (
     sub_run,
     sub_run_end,
 )
-from workshop.cases.outlines import GROUPINGS, outline, outlined, printed
+from workshop.cases.outlines import (
+    FIRST_TEST_NAMED,
+    GROUPINGS,
+    RUN_NAMED,
+    outline,
+    outlined,
+    printed,
+)
 
 # What a row of begins and ends is called under each grouping; a mark is a phase, a row and a
 # second.
@@ -288,16 +295,13 @@ ALL_SPANS = [
     start(1010, 3, 0),
     run_end(1011),
 ]
-ALL_DRAWN = """\
-M :process_name 0/0 0 {"name":"nextest run (default)"}
-M :process_sort_index 0/0 0 {"sort_index":0}
-M :thread_name 0/1 0 {"name":"run"}
-M :thread_sort_index 0/1 0 {"sort_index":1}
+ALL_DRAWN = (
+    RUN_NAMED
+    + """\
 B run:test run 0/1 1000000000
-M :process_name 2/0 0 {"name":"alpha::a"}
-M :process_sort_index 2/0 0 {"sort_index":2}
-M :thread_name 2/10000 0 {"name":"slot-0"}
-M :thread_sort_index 2/10000 0 {"sort_index":10000}
+"""
+    + FIRST_TEST_NAMED
+    + """\
 B test:t1 2/10000 1001000000
 C run:concurrency 0/0 1001000000 {"running_scripts":0,"running_tests":1}
 M :process_name 1/0 0 {"name":"setup-scripts"}
@@ -329,6 +333,7 @@ B test:t3 3/10000 1010000000
 C run:concurrency 0/0 1010000000 {"running_scripts":0,"running_tests":2}
 E run:test run 0/1 1011000000
 """
+)
 
 
 def marks(group_by: str, drawn: Sequence[Mark]) -> Holds:
