@@ -85,7 +85,12 @@ def row_named(pid: int, tid: int, name: str) -> str:
     )
 
 
-RUN_NAMED = process_named(0, "nextest run (default)") + row_named(0, 1, "run")
+# A run that begins at second 1000, and the first row of a test.
+RUN_BEGUN = (
+    process_named(0, "nextest run (default)")
+    + row_named(0, 1, "run")
+    + "B run:test run 0/1 1000000000\n"
+)
 FIRST_TEST_NAMED = process_named(2, "alpha::a") + row_named(2, 10000, "slot-0")
 
 

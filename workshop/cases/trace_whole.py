@@ -23,7 +23,7 @@ from workshop.cases.histories import (
     sub_run_end,
     two_slots,
 )
-from workshop.cases.outlines import FIRST_TEST_NAMED, GROUPINGS, RUN_NAMED, outlined, printed
+from workshop.cases.outlines import FIRST_TEST_NAMED, GROUPINGS, RUN_BEGUN, outlined, printed
 from workshop.cases.texts import (
     EMPTY_TRACE,
     EMPTY_TRACE_IN_LINES,
@@ -40,10 +40,7 @@ from workshop.cases.texts import (
 
 # Two binaries with two tests each, a retry and a pause.
 TWO_SLOTS_DRAWN = (
-    RUN_NAMED
-    + """\
-B run:test run 0/1 1000000000
-"""
+    RUN_BEGUN
     + FIRST_TEST_NAMED
     + """\
 B test:t1 2/10000 1000000000
@@ -96,9 +93,8 @@ E run:test run 0/1 1011000000
 
 NO_TESTS = [run(1000), run_end(1001)]
 NO_TESTS_DRAWN = (
-    RUN_NAMED
+    RUN_BEGUN
     + """\
-B run:test run 0/1 1000000000
 E run:test run 0/1 1001000000
 """
 )
@@ -145,9 +141,8 @@ TWO_SUB_RUNS = [
     run_end(1009),
 ]
 TWO_SUB_RUNS_DRAWN = (
-    RUN_NAMED
+    RUN_BEGUN
     + """\
-B run:test run 0/1 1000000000
 M :thread_name 0/2 0 {"name":"stress sub-runs"}
 M :thread_sort_index 0/2 0 {"sort_index":2}
 B stress:sub-run 0/2 1001000000
