@@ -122,6 +122,28 @@ def options(group_by: str, message_format: str = "json") -> Words:
     return "--group-by", group_by, "--message-format", message_format
 
 
+def of_both(
+    name: str,
+    lines: Sequence[Line],
+    live: Wanted | Beside,
+    logged: Wanted | Beside,
+    group_by: str,
+    message_format: str = "json",
+) -> list[Case]:
+    """The cases of events of which `record` and `trace` print this."""
+    words = options(group_by, message_format)
+    return [
+        Case(
+            f"{name}, record by {group_by}",
+            ("record", "b", *words),
+            traced_session(lines),
+            out=live,
+            file=begins(MAGIC),
+        ),
+        Case(f"{name}, trace by {group_by}", ("trace", *words), traced_bundle(lines), out=logged),
+    ]
+
+
 def printed(
     name: str,
     lines: Sequence[Line],
@@ -130,17 +152,7 @@ def printed(
     message_format: str = "json",
 ) -> list[Case]:
     """The cases of events whose trace is this, or of which that is said."""
-    words = options(group_by, message_format)
-    return [
-        Case(
-            f"{name}, record by {group_by}",
-            ("record", "b", *words),
-            traced_session(lines),
-            out=out,
-            file=begins(MAGIC),
-        ),
-        Case(f"{name}, trace by {group_by}", ("trace", *words), traced_bundle(lines), out=out),
-    ]
+    return of_both(name, lines, out, out, group_by, message_format)
 
 
 def outlined(name: str, phases: str, lines: Sequence[Line], wanted: str) -> list[Case]:
@@ -154,21 +166,11 @@ def drawn(
     """The cases of an event that draws these trace events after those before it, which draw what
     they draw without it.
     """
-    words, lines = options(group_by), [*before, last]
     live, logged = (
         Beside(form(before), lambda trace: after(trace, wanted))
         for form in (traced_session, traced_bundle)
     )
-    return [
-        Case(
-            f"{name}, record by {group_by}",
-            ("record", "b", *words),
-            traced_session(lines),
-            out=live,
-            file=begins(MAGIC),
-        ),
-        Case(f"{name}, trace by {group_by}", ("trace", *words), traced_bundle(lines), out=logged),
-    ]
+    return of_both(name, [*before, last], live, logged, group_by)
 
 
 def kinds_of(lines: Sequence[Line]) -> str:
