@@ -1,7 +1,7 @@
-"""What the tests of Python here have in common: what each needs of the machine, and what is done where that is missing.
+"""What all Python tests share: what each needs of the machine, and what follows if that is missing.
 
-A test that is marked `program`, `cargo` or `browser` needs the built program, cargo or Chromium. Where it is missing the
-test is skipped; with REZOVAMY_TEST_ALL=1, as in the gate, it fails.
+A test that is marked `program`, `cargo` or `browser` needs the built program, cargo or Chromium.
+Where it is missing the test is skipped; with REZOVAMY_TEST_ALL=1, as in the gate, it fails.
 """
 
 from __future__ import annotations

@@ -40,6 +40,8 @@ LONGEST_PARAGRAPH = 5
 SENTENCES, OPTIONS = "rezovamy_runs.faults.explain", "rezovamy_runs.faults.causes"
 PATH = re.compile(r"`([\w./]+/[\w.]+\.(?:rt|antt|md|py|edit|session))`")
 TESTS = re.compile(r"`(rec_\w+_tests)`: ((?:`\w+`(?:,\s+)?)+)")
+# Calls in a cell of a table, and the type that has them.
+OWNED_CALLS = re.compile(r"((?:`\w+`(?:, )?)+)(?: of `(\w+)`)?")
 MODULE = re.compile(r"python3 -m ((?:workshop|rezovamy_runs)(?:\.\w+)*)")
 
 
@@ -112,16 +114,22 @@ def owned_row_faults(cells: Sequence[str], crates: Crates) -> Iterator[str]:
     It has calls with the types that have them, and clauses that each of these calls has.
     """
     (crate,) = quoted(cells[0])
-    for group in re.findall(r"((?:`\w+`(?:, )?)+)(?: of `(\w+)`)?", cells[1]):
-        calls, owner = quoted(group[0]), group[1]
-        for call in calls:
-            clauses = crates.clauses_in(crate, call, owner)
-            if clauses is None:
-                yield f"no {call} of {owner} in {crate}"
-                continue
-            for name in quoted(cells[3]):
-                if name not in clauses:
-                    yield f"no clause {name} of {call} of {owner} in {crate}"
+    for calls, owner in OWNED_CALLS.findall(cells[1]):
+        for call in quoted(calls):
+            yield from owned_call_faults(crate, call, owner, quoted(cells[3]), crates)
+
+
+def owned_call_faults(
+    crate: str, call: str, owner: str, wanted: Sequence[str], crates: Crates
+) -> Iterator[str]:
+    """Yield that a call of a type of a crate is missing, or a clause that is wanted of it."""
+    clauses = crates.clauses_in(crate, call, owner)
+    if clauses is None:
+        yield f"no {call} of {owner} in {crate}"
+        return
+    for name in wanted:
+        if name not in clauses:
+            yield f"no clause {name} of {call} of {owner} in {crate}"
 
 
 def row_faults(

@@ -22,6 +22,7 @@ they share counts for each. Nothing else should run on the machine meanwhile.
 
 from __future__ import annotations
 
+import argparse
 import contextlib
 import dataclasses
 import math
@@ -439,7 +440,8 @@ def sentences(measure: Measure, uses: Uses, together: Mapping[str, Cost]) -> Ite
         )
 
 
-def main() -> None:
+def read_words() -> argparse.Namespace:
+    """Return what the words of the command ask for, or refuse those that don't go together."""
     parser = command_line(__doc__)
     most = len(os.sched_getaffinity(0))
     parser.add_argument(
@@ -468,9 +470,15 @@ def main() -> None:
             "of gates that are watched it isn't known whether they pass, so --write doesn't go "
             "with --watch"
         )
+    if asked.first_run is not None and (asked.watch or asked.write or asked.processors != most):
+        parser.error("--first-run stands alone")
+    return asked
+
+
+def main() -> None:
+    """Measure the gates that are asked for, print what they cost, and write the table."""
+    asked = read_words()
     if asked.first_run is not None:
-        if asked.watch or asked.write or asked.processors != most:
-            parser.error("--first-run stands alone")
         measure = first_run(asked.first_run)
         print("\n".join(first_lines(measure)))
         sys.exit(measure.status)

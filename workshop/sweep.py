@@ -31,7 +31,7 @@ from collections.abc import Iterator, Mapping, Sequence
 from pathlib import Path
 from typing import NamedTuple, TextIO
 
-from rezovamy_runs.bundles.container import entry
+from rezovamy_runs.bundles.container import entries
 from rezovamy_runs.command_line import command_line, demand_program, whole
 from workshop import TOP
 from workshop.tracing import Call, run_refusing
@@ -286,7 +286,7 @@ def targets_of(tool: Sweep, name: str, session: bytes, options: Sequence[str]) -
             f"{name}: {command} prints {shown.out!r}",
         )
         demand(
-            command != "info" or shown.out == entry(plain.bundle, MANIFEST) + b"\n",
+            command != "info" or shown.out == entries(plain.bundle).get(MANIFEST, b"") + b"\n",
             f"{name}: info prints another manifest",
         )
         yield Target(

@@ -92,6 +92,19 @@ def fault(verdict: Verdict, words: str) -> str:
     return f"BAD EDIT, which doesn't come to the proof of its function: {words}"
 
 
+def undecided(said: Mapping[str, Judgement]) -> tuple[list[str], list[str]]:
+    """Return the edits of a check that wait for others of it, and those to be tried alone."""
+    is_any_settled = any(verdict in SETTLED for verdict, _ in said.values())
+    waiting: list[str] = []
+    unclear: list[str] = []
+    for name, (verdict, _) in said.items():
+        if verdict is Verdict.WAITS and is_any_settled:
+            waiting.append(name)
+        elif verdict not in SETTLED and len(said) > 1:
+            unclear.append(name)
+    return waiting, unclear
+
+
 def faults(
     edits: Mapping[str, str], folder: Path, check: Callable[[Round], Mapping[str, Judgement]]
 ) -> str:
@@ -101,16 +114,15 @@ def faults(
     while todo:
         later: dict[str, str] = {}
         alone: dict[str, str] = {}
-        for each in todo:
-            said = check(each)
-            kinds = {verdict for verdict, _ in said.values()}
-            for name, (verdict, words) in said.items():
-                if verdict is Verdict.WAITS and kinds & SETTLED:
-                    later[name] = edits[name]
-                elif verdict not in SETTLED and len(said) > 1:
-                    alone[name] = edits[name]
-                elif verdict is not Verdict.REFUSED:
-                    found[name] = f"{name}: {fault(verdict, words)}\n"
+        for said in map(check, todo):
+            waiting, unclear = undecided(said)
+            later |= {name: edits[name] for name in waiting}
+            alone |= {name: edits[name] for name in unclear}
+            found |= {
+                name: f"{name}: {fault(verdict, words)}\n"
+                for name, (verdict, words) in said.items()
+                if name not in waiting + unclear and verdict is not Verdict.REFUSED
+            }
         todo = edit_checks.rounds(later, folder)
         for name, text in alone.items():
             todo += edit_checks.rounds({name: text}, folder)

@@ -42,8 +42,13 @@ TEST_INSTANCE = (
     '{"elapsed":{"nanos":0,"secs":0},"junit-report-skipped":"none","kind":"test-skipped",'
     '"reason":"ignored","test-instance":VALUE,"timestamp":{"nanos":0,"offset":0,"secs":1000}}'
 )
-BINARY_ID = TEST_INSTANCE.replace("VALUE", '{"binary-id":VALUE,"test-name":"t1"}')
-TEST_NAME = TEST_INSTANCE.replace("VALUE", '{"binary-id":"alpha::a","test-name":VALUE}')
+BINARY_ID, TEST_NAME = (
+    TEST_INSTANCE.replace("VALUE", names)
+    for names in (
+        '{"binary-id":VALUE,"test-name":"t1"}',
+        '{"binary-id":"alpha::a","test-name":VALUE}',
+    )
+)
 SKIP = BINARY_ID.replace("VALUE", '"alpha::a"')
 STRESS_INDEX = SKIP.replace('"test-instance"', '"stress-index":VALUE,"test-instance"')
 REASON = SKIP.replace('"ignored"', "VALUE")
@@ -72,17 +77,27 @@ RESULT = (
     '"running":0,"test-instance":{"binary-id":"alpha::a","test-name":"t1"},"timestamp":{"nanos":0,'
     '"offset":0,"secs":1000}}'
 )
-LEAK = RESULT.replace("VALUE", '{"leak":VALUE}')
-TIMEOUT = RESULT.replace("VALUE", '{"timeout":VALUE}')
-FAILURE = RESULT.replace("VALUE", '{"fail":{"failure":VALUE,"leaked":false}}')
-NOT_EXECUTED = RESULT.replace("VALUE", '"exec-fail"')
+LEAK, TIMEOUT, FAILURE, NOT_EXECUTED = (
+    RESULT.replace("VALUE", result)
+    for result in (
+        '{"leak":VALUE}',
+        '{"timeout":VALUE}',
+        '{"fail":{"failure":VALUE,"leaked":false}}',
+        '"exec-fail"',
+    )
+)
 DISPLAY = NOT_EXECUTED.replace('"failure-output":"never"', '"failure-output":VALUE')
 ERROR_SUMMARY = NOT_EXECUTED.replace('"is-slow"', '"error-summary":VALUE,"is-slow"')
 ERROR_SLICE = NOT_EXECUTED.replace('"result"', '"output-error-slice":VALUE,"result"')
 STREAMS = NOT_EXECUTED.replace('{"start-error":""}', '{"output":{"output":VALUE}}')
-OUTPUT = STREAMS.replace("VALUE", '{"combined":VALUE}')
-NAME = STREAMS.replace("VALUE", '{"split":{"stderr":{"full":VALUE}}}')
-STORED = STREAMS.replace("VALUE", '{"split":{"stdout":VALUE}}')
+OUTPUT, NAME, STORED = (
+    STREAMS.replace("VALUE", streams)
+    for streams in (
+        '{"combined":VALUE}',
+        '{"split":{"stderr":{"full":VALUE}}}',
+        '{"split":{"stdout":VALUE}}',
+    )
+)
 FLAKY_RESULT = (
     '{"current-stats":{"exec-failed":0,"failed":0,"failed-slow":0,"failed-timed-out":0,'
     '"finished-count":0,"flaky":0,"initial-run-count":1,"leaky":0,"leaky-failed":0,"passed":0,'

@@ -240,6 +240,25 @@ def script_finished(output: str, **rest: object) -> Members:
     return script_ended({**ran, **rest}, DB_SCRIPT)
 
 
+def attempt_started(
+    kind: str,
+    of: Members,
+    assigned: Members,
+    said: Members,
+    running: object,
+    words: Sequence[str],
+) -> Members:
+    """An attempt of a test starts by these words, and the event says this besides."""
+    return {
+        "kind": kind,
+        "test-instance": of,
+        "slot-assignment": assigned,
+        **said,
+        "running": running,
+        "command-line": list(words),
+    }
+
+
 def test_started(
     of: Members = T0,
     assigned: Members = slot(),
@@ -247,14 +266,8 @@ def test_started(
     running: object = 1,
     words: Sequence[str] = (),
 ) -> Members:
-    return {
-        "kind": "test-started",
-        "test-instance": of,
-        "slot-assignment": assigned,
-        "current-stats": counts,
-        "running": running,
-        "command-line": list(words),
-    }
+    said = {"current-stats": counts}
+    return attempt_started("test-started", of, assigned, said, running, words)
 
 
 def retry_started(
@@ -264,14 +277,8 @@ def retry_started(
     running: object = 1,
     words: Sequence[str] = (),
 ) -> Members:
-    return {
-        "kind": "test-retry-started",
-        "test-instance": of,
-        "slot-assignment": assigned,
-        "retry-data": retry_data,
-        "running": running,
-        "command-line": list(words),
-    }
+    said = {"retry-data": retry_data}
+    return attempt_started("test-retry-started", of, assigned, said, running, words)
 
 
 def slow_test(

@@ -253,3 +253,30 @@ def go_on(secs: int, scripts: int) -> Line:
 
 def cancel(secs: int, scripts: int) -> Line:
     return stop(secs, "run-begin-cancel", scripts, reason="signal")
+
+
+def two_slots(
+    first_end: Line = end(1002, 1, 0),
+    failure: Line = fail(1007, 2),
+    second_end: Line = end(1010, 2, 0),
+) -> list[Line]:
+    """Two binaries with two tests each on two slots, a pause, and a test that is tried again.
+
+    The first test ends so, an attempt of the second fails so, and this ends so at last.
+    """
+    return [
+        run(1000),
+        start(1000, 1, 0),
+        start(1001, 2, 1),
+        first_end,
+        start(1002, 3, 0),
+        pause(1003, 0),
+        go_on(1006, 0),
+        failure,
+        retry(1008, 2, 1),
+        end(1009, 3, 0),
+        second_end,
+        start(1010, 4, 1),
+        end(1011, 4, 0),
+        run_end(1011),
+    ]

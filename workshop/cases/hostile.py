@@ -90,20 +90,13 @@ PAUSES = [
 ]
 FIRST, SECOND, THIRD = of_test(1, 2, 10000), of_test(2, 2, 10001), of_test(3, 3, 10002)
 SLICES = [
-    ("B", RUN, 1000),
-    ("B", FIRST, 1000),
-    ("B", SECOND, 1000),
-    ("E", RUN, 1001),
-    ("E", FIRST, 1001),
-    ("E", SECOND, 1001),
-    ("B", SECOND, 1002),
-    ("E", SECOND, 1002),
-    ("B", RUN, 1002),
-    ("E", RUN, 1002),
-    ("B", FIRST, 1003),
-    ("E", FIRST, 1005),
-    ("B", THIRD, 1007),
-    ("E", THIRD, 1007),
+    ("B", [RUN, FIRST, SECOND], 1000),
+    ("E", [RUN, FIRST, SECOND], 1001),
+    ("BE", [SECOND], 1002),
+    ("BE", [RUN], 1002),
+    ("B", [FIRST], 1003),
+    ("E", [FIRST], 1005),
+    ("BE", [THIRD], 1007),
 ]
 
 

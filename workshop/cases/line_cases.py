@@ -2,7 +2,7 @@
 
 from __future__ import annotations
 
-from collections.abc import Iterator, Sequence
+from collections.abc import Callable, Iterator, Sequence
 from typing import TypeAlias
 
 from workshop.cases.case import SOME, Case, entry_is
@@ -17,6 +17,8 @@ REFUSED = None
 # Texts, and what each is written as.
 Row: TypeAlias = tuple[str, str | None]
 Rows: TypeAlias = Sequence[Row]
+# What makes a case of a name and a line.
+CaseOf: TypeAlias = Callable[[str, str], Case]
 
 # Texts and run ids.
 TEXTS: list[Row] = [
@@ -75,6 +77,11 @@ def refused_in_log(name: str, line: str) -> Case:
         5,
         err=b"ReadError ParseEvent line_number=1\n",
     )
+
+
+# How a line is taken as an event, and how it is refused, in a session and in a log.
+IN_SESSION = (read_of_session, refused_in_session)
+IN_LOG = (read_of_log, refused_in_log)
 
 
 def written_as(name: str, lines: Sequence[tuple[str, str]]) -> Iterator[Case]:

@@ -4,21 +4,13 @@ another value in its place.
 
 from __future__ import annotations
 
-from collections.abc import Callable, Iterator, Sequence
+from collections.abc import Iterator, Mapping, Sequence
 from typing import TypeAlias
 
 from workshop.cases.case import Case
-from workshop.cases.events import NO_COUNTS, stats
-from workshop.cases.line_cases import (
-    read_of_log,
-    read_of_session,
-    refused_in_log,
-    refused_in_session,
-)
+from workshop.cases.events import stats
+from workshop.cases.line_cases import IN_LOG, IN_SESSION, CaseOf
 from workshop.cases.made import text
-from workshop.cases.texts import attempt_with, end_after
-
-MISSING = '"y":0'  # stands for a missing member, and is ignored
 
 # The statistics of a run in which nothing happened, and the same without the skipped tests.
 NO_STATS = text(stats(initial_run_count=0))
@@ -31,585 +23,357 @@ NOT_EXECUTED = (
     '"nanos":0},"is-slow":false,"delay-before-start":{"secs":0,"nanos":0}}'
 )
 
+# What names a setup script.
+DB_SCRIPT = {"script-id": '"db"', "program": '"sh"', "args": "[]"}
+
 # The members of each kind, but for those that may be missing; and members that it has not.
-SUB_RUN_START = [
-    ("kind", '"stress-sub-run-started"'),
-    ("progress", '{"count":{"total":4,"elapsed":{"secs":2,"nanos":3},"completed":1}}'),
-]
+SUB_RUN_START = {
+    "kind": '"stress-sub-run-started"',
+    "progress": '{"count":{"total":4,"elapsed":{"secs":2,"nanos":3},"completed":1}}',
+}
 
-NO_SUB_RUN_START = [
-    ("kind", '"Stress-Sub-Run-Started"'),
-    ("progress", '"count"'),
-    ("progress", "{}"),
-    ("progress", '{"count":null}'),
-    ("progress", '{"count":{}}'),
-    ("progress", '{"Count":{"elapsed":{"secs":2,"nanos":3},"completed":1}}'),
-    ("progress", '{"count":{"total":4,"completed":1}}'),
-    ("progress", '{"count":{"total":4,"elapsed":{"secs":2,"nanos":3}}}'),
-    ("progress", '{"count":{"total":4294967296,"elapsed":{"secs":2,"nanos":3},"completed":1}}'),
-    ("progress", '{"count":{"elapsed":{"secs":2,"nanos":3},"completed":-1}}'),
-    ("progress", '{"count":{"elapsed":{"secs":2,"nanos":3},"completed":1.0}}'),
-    ("progress", '{"time":{"elapsed":{"secs":2,"nanos":3},"completed":1}}'),
-    ("progress", '{"time":{"total":4,"elapsed":{"secs":2,"nanos":3},"completed":1}}'),
-    ("progress", '{"count":{"elapsed":{"secs":2,"nanos":3},"completed":1},"x":0}'),
-]
+NO_SUB_RUN_START = {
+    "kind": ['"Stress-Sub-Run-Started"'],
+    "progress": [
+        '"count"',
+        "{}",
+        '{"count":null}',
+        '{"count":{}}',
+        '{"Count":{"elapsed":{"secs":2,"nanos":3},"completed":1}}',
+        '{"count":{"total":4,"completed":1}}',
+        '{"count":{"total":4,"elapsed":{"secs":2,"nanos":3}}}',
+        '{"count":{"total":4294967296,"elapsed":{"secs":2,"nanos":3},"completed":1}}',
+        '{"count":{"elapsed":{"secs":2,"nanos":3},"completed":-1}}',
+        '{"count":{"elapsed":{"secs":2,"nanos":3},"completed":1.0}}',
+        '{"time":{"elapsed":{"secs":2,"nanos":3},"completed":1}}',
+        '{"time":{"total":4,"elapsed":{"secs":2,"nanos":3},"completed":1}}',
+        '{"count":{"elapsed":{"secs":2,"nanos":3},"completed":1},"x":0}',
+    ],
+}
 
-SCRIPT_START = [
-    ("kind", '"setup-script-started"'),
-    ("index", "0"),
-    ("total", "1"),
-    ("script-id", '"db"'),
-    ("program", '"sh"'),
-    ("args", "[]"),
-    ("no-capture", "false"),
-]
+SCRIPT_START = {
+    "kind": '"setup-script-started"',
+    "index": "0",
+    "total": "1",
+    **DB_SCRIPT,
+    "no-capture": "false",
+}
 
-NO_SCRIPT_START = [
-    ("kind", '"SetupScriptStarted"'),
-    ("index", "-1"),
-    ("index", "0.0"),
-    ("index", '"0"'),
-    ("total", "18446744073709551616"),
-    ("total", "[1]"),
-    ("script-id", "0"),
-    ("script-id", '["db"]'),
-    ("program", "true"),
-    ("args", '"-c"'),
-    ("args", "[null]"),
-    ("args", "{}"),
-    ("no-capture", "0"),
-    ("no-capture", '"false"'),
-    ("stress-index", "{}"),
-    ("stress-index", '{"current":4294967296}'),
-    ("stress-index", '{"current":0,"total":0}'),
-]
+NO_SCRIPT_START = {
+    "kind": ['"SetupScriptStarted"'],
+    "index": ["-1", "0.0", '"0"'],
+    "total": ["18446744073709551616", "[1]"],
+    "script-id": ["0", '["db"]'],
+    "program": ["true"],
+    "args": ['"-c"', "[null]", "{}"],
+    "no-capture": ["0", '"false"'],
+    "stress-index": ["{}", '{"current":4294967296}', '{"current":0,"total":0}'],
+}
 
-SLOW_SCRIPT = [
-    ("kind", '"setup-script-slow"'),
-    ("script-id", '"db"'),
-    ("program", '"sh"'),
-    ("args", "[]"),
-    ("slow-elapsed", '{"secs":60,"nanos":0}'),
-    ("will-terminate", "true"),
-]
+SLOW_SCRIPT = {
+    "kind": '"setup-script-slow"',
+    **DB_SCRIPT,
+    "slow-elapsed": '{"secs":60,"nanos":0}',
+    "will-terminate": "true",
+}
 
-NO_SLOW_SCRIPT = [
-    ("kind", '"SETUP-SCRIPT-SLOW"'),
-    ("script-id", "{}"),
-    ("program", "[]"),
-    ("args", '[["-c"]]'),
-    ("slow-elapsed", "60"),
-    ("slow-elapsed", '{"secs":60}'),
-    ("slow-elapsed", '{"secs":-1,"nanos":0}'),
-    ("slow-elapsed", '{"secs":60,"nanos":1000000000}'),
-    ("will-terminate", '"true"'),
-    ("will-terminate", "1"),
-    ("stress-index", "1"),
-]
+NO_SLOW_SCRIPT = {
+    "kind": ['"SETUP-SCRIPT-SLOW"'],
+    "script-id": ["{}"],
+    "program": ["[]"],
+    "args": ['[["-c"]]'],
+    "slow-elapsed": [
+        "60",
+        '{"secs":60}',
+        '{"secs":-1,"nanos":0}',
+        '{"secs":60,"nanos":1000000000}',
+    ],
+    "will-terminate": ['"true"', "1"],
+    "stress-index": ["1"],
+}
 
-SLOW_TEST = [
-    ("kind", '"test-slow"'),
-    ("test-instance", '{"binary-id":"alpha::a","test-name":"t1"}'),
-    ("retry-data", '{"attempt":1,"total-attempts":3}'),
-    ("slow-elapsed", '{"secs":60,"nanos":0}'),
-    ("will-terminate", "false"),
-]
+SLOW_TEST = {
+    "kind": '"test-slow"',
+    "test-instance": '{"binary-id":"alpha::a","test-name":"t1"}',
+    "retry-data": '{"attempt":1,"total-attempts":3}',
+    "slow-elapsed": '{"secs":60,"nanos":0}',
+    "will-terminate": "false",
+}
 
-NO_SLOW_TEST = [
-    ("kind", '"test_slow"'),
-    ("test-instance", '"alpha::a t1"'),
-    ("test-instance", '{"test-name":"t1"}'),
-    ("test-instance", '{"binary-id":"alpha::a","test-name":1}'),
-    ("retry-data", '{"attempt":1}'),
-    ("retry-data", '{"total-attempts":3}'),
-    ("retry-data", '{"attempt":4294967296,"total-attempts":3}'),
-    ("retry-data", '{"attempt":1,"total-attempts":3e0}'),
-    ("slow-elapsed", '{"nanos":0}'),
-    ("slow-elapsed", "[60,0]"),
-    ("will-terminate", "0"),
-    ("stress-index", '{"total":1}'),
-]
+NO_SLOW_TEST = {
+    "kind": ['"test_slow"'],
+    "test-instance": [
+        '"alpha::a t1"',
+        '{"test-name":"t1"}',
+        '{"binary-id":"alpha::a","test-name":1}',
+    ],
+    "retry-data": [
+        '{"attempt":1}',
+        '{"total-attempts":3}',
+        '{"attempt":4294967296,"total-attempts":3}',
+        '{"attempt":1,"total-attempts":3e0}',
+    ],
+    "slow-elapsed": ['{"nanos":0}', "[60,0]"],
+    "will-terminate": ["0"],
+    "stress-index": ['{"total":1}'],
+}
 
-RETRY = [
-    ("kind", '"test-retry-started"'),
-    ("test-instance", '{"binary-id":"alpha::a","test-name":"t1"}'),
-    ("slot-assignment", '{"global-slot":0,"test-group":"@global"}'),
-    ("retry-data", '{"attempt":2,"total-attempts":3}'),
-    ("running", "1"),
-    ("command-line", "[]"),
-]
+RETRY = {
+    "kind": '"test-retry-started"',
+    "test-instance": '{"binary-id":"alpha::a","test-name":"t1"}',
+    "slot-assignment": '{"global-slot":0,"test-group":"@global"}',
+    "retry-data": '{"attempt":2,"total-attempts":3}',
+    "running": "1",
+    "command-line": "[]",
+}
 
-NO_RETRY = [
-    ("kind", '"Test-retry-started"'),
-    ("test-instance", "[]"),
-    ("slot-assignment", '{"global-slot":0}'),
-    ("slot-assignment", '{"global-slot":-1,"test-group":"@global"}'),
-    ("slot-assignment", '{"global-slot":0,"group-slot":1.5,"test-group":"@global"}'),
-    ("slot-assignment", '{"global-slot":0,"test-group":null}'),
-    ("retry-data", "2"),
-    ("retry-data", '{"attempt":-1,"total-attempts":3}'),
-    ("running", "18446744073709551616"),
-    ("running", "-0"),
-    ("command-line", '"t"'),
-    ("stress-index", '{"current":0,"total":4294967296}'),
-]
+NO_RETRY = {
+    "kind": ['"Test-retry-started"'],
+    "test-instance": ["[]"],
+    "slot-assignment": [
+        '{"global-slot":0}',
+        '{"global-slot":-1,"test-group":"@global"}',
+        '{"global-slot":0,"group-slot":1.5,"test-group":"@global"}',
+        '{"global-slot":0,"test-group":null}',
+    ],
+    "retry-data": ["2", '{"attempt":-1,"total-attempts":3}'],
+    "running": ["18446744073709551616", "-0"],
+    "command-line": ['"t"'],
+    "stress-index": ['{"current":0,"total":4294967296}'],
+}
 
-SKIP = [
-    ("kind", '"test-skipped"'),
-    ("test-instance", '{"binary-id":"alpha::a","test-name":"t1"}'),
-    ("reason", '"ignored"'),
-    ("junit-report-skipped", '"none"'),
-]
+SKIP = {
+    "kind": '"test-skipped"',
+    "test-instance": '{"binary-id":"alpha::a","test-name":"t1"}',
+    "reason": '"ignored"',
+    "junit-report-skipped": '"none"',
+}
 
-NO_SKIP = [
-    ("kind", '"test-skip"'),
-    ("test-instance", '{"binary-id":null,"test-name":"t1"}'),
-    ("reason", '"Ignored"'),
-    ("reason", '"none"'),
-    ("reason", '""'),
-    ("reason", '{"ignored":null}'),
-    ("reason", '["ignored"]'),
-    ("junit-report-skipped", '"string"'),
-    ("junit-report-skipped", "false"),
-    ("junit-report-skipped", '{"all":true}'),
-    ("stress-index", "[]"),
-]
+NO_SKIP = {
+    "kind": ['"test-skip"'],
+    "test-instance": ['{"binary-id":null,"test-name":"t1"}'],
+    "reason": ['"Ignored"', '"none"', '""', '{"ignored":null}', '["ignored"]'],
+    "junit-report-skipped": ['"string"', "false", '{"all":true}'],
+    "stress-index": ["[]"],
+}
 
-CANCEL = [
-    ("kind", '"run-begin-cancel"'),
-    ("setup-scripts-running", "0"),
-    ("running", "1"),
-    ("reason", '"signal"'),
-]
+CANCEL = {
+    "kind": '"run-begin-cancel"',
+    "setup-scripts-running": "0",
+    "running": "1",
+    "reason": '"signal"',
+}
 
-NO_CANCEL = [
-    ("kind", '"run-cancel"'),
-    ("setup-scripts-running", "-1"),
-    ("setup-scripts-running", "1.0"),
-    ("running", "true"),
-    ("running", "18446744073709551616"),
-    ("reason", '"Signal"'),
-    ("reason", '"ignored"'),
-    ("reason", '{"signal":null}'),
-    ("reason", "2"),
-]
+NO_CANCEL = {
+    "kind": ['"run-cancel"'],
+    "setup-scripts-running": ["-1", "1.0"],
+    "running": ["true", "18446744073709551616"],
+    "reason": ['"Signal"', '"ignored"', '{"signal":null}', "2"],
+}
 
-PAUSE = [("kind", '"run-paused"'), ("setup-scripts-running", "0"), ("running", "1")]
+PAUSE = {
+    "kind": '"run-paused"',
+    "setup-scripts-running": "0",
+    "running": "1",
+}
 
-CONTINUATION = [("kind", '"run-continued"'), ("setup-scripts-running", "0"), ("running", "1")]
+CONTINUATION = {
+    "kind": '"run-continued"',
+    "setup-scripts-running": "0",
+    "running": "1",
+}
 
 # Kinds that neither of them is, and other members.
-NO_KIND = [
-    ("kind", '"run-pause"'),
-    ("kind", '"Run-Paused"'),
-    ("kind", '"run-continue"'),
-    ("kind", '{"run-paused":null}'),
-]
+NO_KIND = {
+    "kind": ['"run-pause"', '"Run-Paused"', '"run-continue"', '{"run-paused":null}'],
+}
 
-NO_PAUSE = [
-    ("setup-scripts-running", "-1"),
-    ("setup-scripts-running", '"0"'),
-    ("setup-scripts-running", "18446744073709551616"),
-    ("running", "-1"),
-    ("running", "1e0"),
-    ("running", "[]"),
-]
+NO_PAUSE = {
+    "setup-scripts-running": ["-1", '"0"', "18446744073709551616"],
+    "running": ["-1", "1e0", "[]"],
+}
 
-SUB_RUN_END = [
-    ("kind", '"stress-sub-run-finished"'),
-    ("progress", '{"count":{"elapsed":{"secs":2,"nanos":3},"completed":1}}'),
-    ("sub-elapsed", '{"secs":1,"nanos":0}'),
-    ("sub-stats", NO_STATS),
-]
+SUB_RUN_END = {
+    "kind": '"stress-sub-run-finished"',
+    "progress": '{"count":{"elapsed":{"secs":2,"nanos":3},"completed":1}}',
+    "sub-elapsed": '{"secs":1,"nanos":0}',
+    "sub-stats": NO_STATS,
+}
 
-NO_SUB_RUN_END = [
-    ("kind", '"stress-sub-run-ended"'),
-    ("progress", "1"),
-    ("progress", '{"count":{"elapsed":{"secs":2,"nanos":3},"completed":4294967296}}'),
-    ("progress", '{"time":{"total":null,"elapsed":{"secs":2,"nanos":3},"completed":1}}'),
-    ("sub-elapsed", "1"),
-    ("sub-elapsed", '{"secs":1,"nanos":-1}'),
-    ("sub-stats", "{}"),
-    ("sub-stats", NO_SKIPPED),
-    ("sub-stats", "[]"),
-]
+NO_SUB_RUN_END = {
+    "kind": ['"stress-sub-run-ended"'],
+    "progress": [
+        "1",
+        '{"count":{"elapsed":{"secs":2,"nanos":3},"completed":4294967296}}',
+        '{"time":{"total":null,"elapsed":{"secs":2,"nanos":3},"completed":1}}',
+    ],
+    "sub-elapsed": ["1", '{"secs":1,"nanos":-1}'],
+    "sub-stats": ["{}", NO_SKIPPED, "[]"],
+}
 
-RUN_END = [
-    ("kind", '"run-finished"'),
-    ("run-id", '"550e8400-e29b-41d4-a716-446655440000"'),
-    ("start-time", '{"secs":1000,"nanos":0,"offset":0}'),
-    ("run-elapsed", '{"secs":9,"nanos":0}'),
-    (
-        "run-stats",
-        (
-            '{"stress":{"completed":{"current":0},"success-count":1,"failed-count":0,'
-            '"last-final-stats":"success"}}'
-        ),
+RUN_END = {
+    "kind": '"run-finished"',
+    "run-id": '"550e8400-e29b-41d4-a716-446655440000"',
+    "start-time": '{"secs":1000,"nanos":0,"offset":0}',
+    "run-elapsed": '{"secs":9,"nanos":0}',
+    "run-stats": (
+        '{"stress":{"completed":{"current":0},"success-count":1,"failed-count":0,'
+        '"last-final-stats":"success"}}'
     ),
-]
+}
 
-NO_RUN_END = [
-    ("kind", '"RunFinished"'),
-    ("run-id", '"550e8400"'),
-    ("run-id", "1"),
-    ("start-time", '{"secs":1000,"nanos":0}'),
-    ("start-time", '{"secs":9223372036854775808,"nanos":0,"offset":0}'),
-    ("start-time", '{"secs":1000,"nanos":0,"offset":2147483648}'),
-    ("run-elapsed", '{"secs":18446744073709551616,"nanos":0}'),
-    ("run-elapsed", "9"),
-    ("outstanding-not-seen", "[]"),
-    ("outstanding-not-seen", '{"not-seen":[]}'),
-    ("outstanding-not-seen", '{"not-seen":["t1"],"total-not-seen":1}'),
-    ("outstanding-not-seen", '{"not-seen":[],"total-not-seen":-1}'),
-    ("run-stats", '"single"'),
-    ("run-stats", "{}"),
-    ("run-stats", NO_STATS),
-    ("run-stats", '{"single":{}}'),
-    ("run-stats", '{"single":null}'),
-    (
-        "run-stats",
+NO_RUN_END = {
+    "kind": ['"RunFinished"'],
+    "run-id": ['"550e8400"', "1"],
+    "start-time": [
+        '{"secs":1000,"nanos":0}',
+        '{"secs":9223372036854775808,"nanos":0,"offset":0}',
+        '{"secs":1000,"nanos":0,"offset":2147483648}',
+    ],
+    "run-elapsed": ['{"secs":18446744073709551616,"nanos":0}', "9"],
+    "outstanding-not-seen": [
+        "[]",
+        '{"not-seen":[]}',
+        '{"not-seen":["t1"],"total-not-seen":1}',
+        '{"not-seen":[],"total-not-seen":-1}',
+    ],
+    "run-stats": [
+        '"single"',
+        "{}",
+        NO_STATS,
+        '{"single":{}}',
+        '{"single":null}',
         (
             '{"stress":{"completed":0,"success-count":1,"failed-count":0,'
             '"last-final-stats":"success"}}'
         ),
-    ),
-    (
-        "run-stats",
         (
             '{"stress":{"completed":{"current":0},"success-count":4294967296,"failed-count":0,'
             '"last-final-stats":"success"}}'
         ),
-    ),
-    (
-        "run-stats",
         '{"stress":{"completed":{"current":0},"success-count":1,"last-final-stats":"success"}}',
-    ),
-    (
-        "run-stats",
         (
             '{"stress":{"completed":{"current":0},"success-count":1,"failed-count":0,'
             '"last-final-stats":"Success"}}'
         ),
-    ),
-    (
-        "run-stats",
         (
             '{"stress":{"completed":{"current":0},"success-count":1,"failed-count":0,'
             '"last-final-stats":"success"},"x":0}'
         ),
-    ),
-]
+    ],
+}
 
-SCRIPT_END = [
-    ("kind", '"setup-script-finished"'),
-    ("index", "0"),
-    ("total", "1"),
-    ("script-id", '"db"'),
-    ("program", '"sh"'),
-    ("args", "[]"),
-    ("no-capture", "false"),
-    (
-        "run-status",
+SCRIPT_END = {
+    "kind": '"setup-script-finished"',
+    "index": "0",
+    "total": "1",
+    **DB_SCRIPT,
+    "no-capture": "false",
+    "run-status": (
         '{"output":{"start-error":""},"result":"pass","start-time":{"secs":0,"nanos":0,'
-        '"offset":0},"time-taken":{"secs":0,"nanos":0},"is-slow":false}',
+        '"offset":0},"time-taken":{"secs":0,"nanos":0},"is-slow":false}'
     ),
-]
+}
 
-NO_SCRIPT_END = [
-    ("kind", '"setup-script-ended"'),
-    ("kind", '"Setup-script-finished"'),
-    ("index", "-1"),
-    ("total", '"1"'),
-    ("script-id", "[]"),
-    ("program", "0"),
-    ("args", "[0]"),
-    ("no-capture", '"no"'),
-    ("stress-index", '{"current":-1}'),
-    ("run-status", "{}"),
-    ("run-status", '"pass"'),
-    ("run-status", "[]"),
-    (
-        "run-status",
-        '{"retry-data":{"attempt":1,"total-attempts":1},"result":"pass","start-time":{"secs":0,'
-        '"nanos":0,"offset":0},"time-taken":{"secs":0,"nanos":0},"is-slow":false}',
-    ),
-]
+NO_SCRIPT_END = {
+    "kind": ['"setup-script-ended"', '"Setup-script-finished"'],
+    "index": ["-1"],
+    "total": ['"1"'],
+    "script-id": ["[]"],
+    "program": ["0"],
+    "args": ["[0]"],
+    "no-capture": ['"no"'],
+    "stress-index": ['{"current":-1}'],
+    "run-status": [
+        "{}",
+        '"pass"',
+        "[]",
+        (
+            '{"retry-data":{"attempt":1,"total-attempts":1},"result":"pass","start-time":{"secs":0,'
+            '"nanos":0,"offset":0},"time-taken":{"secs":0,"nanos":0},"is-slow":false}'
+        ),
+    ],
+}
 
-FAILURE = [
-    ("kind", '"test-attempt-failed-will-retry"'),
-    ("test-instance", '{"binary-id":"alpha::a","test-name":"t1"}'),
-    ("run-status", NOT_EXECUTED.replace('"total-attempts":1', '"total-attempts":2')),
-    ("delay-before-next-attempt", '{"secs":1,"nanos":0}'),
-    ("failure-output", '"immediate"'),
-    ("running", "0"),
-]
+FAILURE = {
+    "kind": '"test-attempt-failed-will-retry"',
+    "test-instance": '{"binary-id":"alpha::a","test-name":"t1"}',
+    "run-status": NOT_EXECUTED.replace('"total-attempts":1', '"total-attempts":2'),
+    "delay-before-next-attempt": '{"secs":1,"nanos":0}',
+    "failure-output": '"immediate"',
+    "running": "0",
+}
 
-NO_FAILURE = [
-    ("kind", '"test-attempt-failed"'),
-    ("kind", '"test-attempt-failed-will-RETRY"'),
-    ("test-instance", "{}"),
-    ("run-status", "{}"),
-    ("run-status", "[]"),
-    ("run-status", NOT_EXECUTED.replace('"retry-data":{"attempt":1,"total-attempts":1},', "")),
-    ("delay-before-next-attempt", "1"),
-    ("delay-before-next-attempt", '{"secs":1,"nanos":1000000000}'),
-    ("failure-output", '"Immediate"'),
-    ("failure-output", "true"),
-    ("running", "-1"),
-    ("running", "18446744073709551616"),
-    ("stress-index", '{"current":1,"total":"4"}'),
-]
+NO_FAILURE = {
+    "kind": ['"test-attempt-failed"', '"test-attempt-failed-will-RETRY"'],
+    "test-instance": ["{}"],
+    "run-status": [
+        "{}",
+        "[]",
+        NOT_EXECUTED.replace('"retry-data":{"attempt":1,"total-attempts":1},', ""),
+    ],
+    "delay-before-next-attempt": ["1", '{"secs":1,"nanos":1000000000}'],
+    "failure-output": ['"Immediate"', "true"],
+    "running": ["-1", "18446744073709551616"],
+    "stress-index": ['{"current":1,"total":"4"}'],
+}
 
-TEST_END = [
-    ("kind", '"test-finished"'),
-    ("test-instance", '{"binary-id":"alpha::a","test-name":"t1"}'),
-    ("success-output", '"never"'),
-    ("failure-output", '"immediate"'),
-    ("junit-store-success-output", "true"),
-    ("junit-store-failure-output", "false"),
-    ("junit-flaky-fail-status", '"failure"'),
-    ("run-statuses", '{"statuses":[' + NOT_EXECUTED + '],"flaky-result":"pass"}'),
-    ("current-stats", NO_STATS),
-    ("running", "0"),
-]
+TEST_END = {
+    "kind": '"test-finished"',
+    "test-instance": '{"binary-id":"alpha::a","test-name":"t1"}',
+    "success-output": '"never"',
+    "failure-output": '"immediate"',
+    "junit-store-success-output": "true",
+    "junit-store-failure-output": "false",
+    "junit-flaky-fail-status": '"failure"',
+    "run-statuses": '{"statuses":[' + NOT_EXECUTED + '],"flaky-result":"pass"}',
+    "current-stats": NO_STATS,
+    "running": "0",
+}
 
-NO_TEST_END = [
-    ("kind", '"test-finish"'),
-    ("kind", '"TestFinished"'),
-    ("test-instance", "{}"),
-    ("test-instance", '"t1"'),
-    ("success-output", '"Never"'),
-    ("success-output", "true"),
-    ("failure-output", '"immediate_final"'),
-    ("failure-output", "[]"),
-    ("junit-store-success-output", "1"),
-    ("junit-store-success-output", '"true"'),
-    ("junit-store-failure-output", "0"),
-    ("junit-store-failure-output", "{}"),
-    ("junit-flaky-fail-status", '"fail"'),
-    ("junit-flaky-fail-status", "false"),
-    ("current-stats", "{}"),
-    ("current-stats", "0"),
-    ("running", "-1"),
-    ("running", "1.0"),
-    ("running", "18446744073709551616"),
-    ("stress-index", '{"current":0,"total":0}'),
-]
+NO_TEST_END = {
+    "kind": ['"test-finish"', '"TestFinished"'],
+    "test-instance": ["{}", '"t1"'],
+    "success-output": ['"Never"', "true"],
+    "failure-output": ['"immediate_final"', "[]"],
+    "junit-store-success-output": ["1", '"true"'],
+    "junit-store-failure-output": ["0", "{}"],
+    "junit-flaky-fail-status": ['"fail"', "false"],
+    "current-stats": ["{}", "0"],
+    "running": ["-1", "1.0", "18446744073709551616"],
+    "stress-index": ['{"current":0,"total":0}'],
+}
 
-NO_STATUSES = [
-    ("run-statuses", "{}"),
-    ("run-statuses", "[]"),
-    ("run-statuses", '"pass"'),
-    ("run-statuses", '{"flaky-result":"pass"}'),
-    ("run-statuses", '{"statuses":[],"flaky-result":"pass"}'),
-    ("run-statuses", '{"statuses":null,"flaky-result":"pass"}'),
-    ("run-statuses", '{"statuses":' + NOT_EXECUTED + ',"flaky-result":"pass"}'),
-    ("run-statuses", '{"statuses":[{}],"flaky-result":"pass"}'),
-    ("run-statuses", '{"statuses":[' + NOT_EXECUTED + "]}"),
-    ("run-statuses", '{"statuses":[' + NOT_EXECUTED + '],"flaky-result":null}'),
-    ("run-statuses", '{"statuses":[' + NOT_EXECUTED + '],"flaky-result":"Pass"}'),
-    ("run-statuses", '{"statuses":[' + NOT_EXECUTED + '],"flaky-result":true}'),
-]
-
-# The end of a setup script, up to its status; the members of that, by their places; and members
-# that it has not.
-BEFORE_SCRIPT_STATUS = (
-    '{"timestamp":{"secs":0,"nanos":0,"offset":0},"elapsed":{"secs":0,"nanos":0},'
-    '"kind":"setup-script-finished","index":0,"total":1,"script-id":"db","program":"sh","args":[],'
-    '"no-capture":false,"run-status":'
-)
-
-SCRIPT_STATUS = [
-    '"output":{"output":{"output":{"split":{}}}}',
-    '"result":"pass"',
-    '"start-time":{"secs":0,"nanos":0,"offset":0}',
-    '"time-taken":{"secs":0,"nanos":0}',
-    '"is-slow":false',
-    '"env-map":{"a":"b"}',
-    '"error-summary":{"short-message":"","description":""}',
-]
-
-NO_SCRIPT_STATUS = [
-    (0, MISSING),
-    (0, '"output":null'),
-    (0, '"output":{}'),
-    (0, '"output":{"output":{"split":{}}}'),
-    (0, '"output":{"output":{"output":{"combined":null}}}'),
-    (0, '"output":{"output":{"output":{"combined":"0"}}}'),
-    (0, '"output":{"output":{"output":{"split":{"stdout":"0g"}}}}'),
-    (0, '"output":{"output":{"output":{"split":{},"combined":""}}}'),
-    (0, '"output":{"start-error":5}'),
-    (1, MISSING),
-    (1, '"result":"fail"'),
-    (1, '"result":{"fail":{"failure":{"exit-code":2147483648},"leaked":false}}'),
-    (1, '"result":{"fail":{"failure":{"exit-code":1}}}'),
-    (2, MISSING),
-    (2, '"start-time":null'),
-    (3, MISSING),
-    (3, '"time-taken":"0"'),
-    (4, MISSING),
-    (4, '"is-slow":null'),
-    (4, '"is-slow":0'),
-    (5, '"env-map":{"a":1}'),
-    (5, '"env-map":{"a":"b","c":null}'),
-    (5, '"env-map":["a","b"]'),
-    (5, '"env-map":"a=b"'),
-    (6, '"error-summary":"short"'),
-    (6, '"error-summary":{"short-message":""}'),
-]
-
-# The same of an attempt that failed.
-BEFORE_ATTEMPT = (
-    '{"timestamp":{"secs":0,"nanos":0,"offset":0},"elapsed":{"secs":0,"nanos":0},'
-    '"kind":"test-attempt-failed-will-retry","test-instance":{"binary-id":"alpha::a",'
-    '"test-name":"t1"},"delay-before-next-attempt":{"secs":1,"nanos":0},'
-    '"failure-output":"immediate","running":0,"run-status":'
-)
-
-ATTEMPT = [
-    '"retry-data":{"attempt":1,"total-attempts":2}',
-    '"output":{"output":{"output":{"combined":""}}}',
-    '"result":{"leak":"fail"}',
-    '"start-time":{"secs":0,"nanos":0,"offset":0}',
-    '"time-taken":{"secs":0,"nanos":0}',
-    '"is-slow":false',
-    '"delay-before-start":{"secs":0,"nanos":0}',
-    '"error-summary":null',
-    '"output-error-slice":null',
-]
-
-NO_ATTEMPT = [
-    (0, MISSING),
-    (0, '"retry-data":null'),
-    (1, MISSING),
-    (1, '"output":{"start-error":"","x":0}'),
-    (1, '"output":{"output":{"output":{"combined":"empty"}}}'),
-    (1, '"output":{"output":{"result":"passed","output":{"combined":""}}}'),
-    (1, '"output":{"output":{"output":{"combined":""},"errors":"late"}}'),
-    (2, MISSING),
-    (2, '"result":"leak"'),
-    (2, '"result":{"leak":"Fail"}'),
-    (3, MISSING),
-    (4, MISSING),
-    (4, '"time-taken":{"secs":1.5,"nanos":0}'),
-    (5, MISSING),
-    (6, MISSING),
-    (6, '"delay-before-start":null'),
-    (7, '"error-summary":[]'),
-    (8, '"output-error-slice":{"slice":""}'),
-    (8, '"output-error-slice":{"slice":"","start":-1}'),
-]
-
-# The same of whole events.
-RUN_START = [
-    '"timestamp":{"secs":1000,"nanos":0,"offset":0}',
-    '"elapsed":{"secs":0,"nanos":0}',
-    '"kind":"run-started"',
-    '"run-id":"550e8400-e29b-41d4-a716-446655440000"',
-    '"profile-name":"default"',
-    '"cli-args":[]',
-    MISSING,
-]
-
-NO_RUN_START = [
-    (0, MISSING),
-    (0, '"timestamp":{"secs":1000,"nanos":1000000000,"offset":0}'),
-    (0, '"timestamp":{"secs":1000.0,"nanos":0,"offset":0}'),
-    (1, MISSING),
-    (1, '"elapsed":null'),
-    (2, MISSING),
-    (2, '"kind":"run-paused"'),
-    (2, '"kind":"RunStarted"'),
-    (2, '"kind":["run-started"]'),
-    (3, MISSING),
-    (3, '"run-id":5'),
-    (3, '"run-id":"550e8400"'),
-    (3, '"run-id":null'),
-    (4, MISSING),
-    (4, '"profile-name":null'),
-    (5, MISSING),
-    (5, '"cli-args":null'),
-    (5, '"cli-args":[1]'),
-    (5, '"cli-args":{}'),
-    (6, '"stress-condition":{}'),
-]
-
-TEST_START = [
-    (
-        '"timestamp":{"secs":1000,"nanos":0,"offset":0},"elapsed":{"secs":0,"nanos":0},'
-        '"kind":"test-started"'
-    ),
-    '"test-instance":{"binary-id":"alpha::a","test-name":"t1"}',
-    '"slot-assignment":{"global-slot":0,"test-group":"@global"}',
-    '"current-stats":' + NO_COUNTS,
-    '"running":1',
-    '"command-line":[]',
-    MISSING,
-]
-
-NO_TEST_START = [
-    (1, MISSING),
-    (1, '"test-instance":null'),
-    (1, '"test-instance":{"binary-id":"alpha::a"}'),
-    (2, MISSING),
-    (2, '"slot-assignment":{"test-group":"@global"}'),
-    (2, '"slot-assignment":null'),
-    (3, MISSING),
-    (3, '"current-stats":null'),
-    (3, '"current-stats":{}'),
-    (4, MISSING),
-    (4, '"running":null'),
-    (4, '"running":-1'),
-    (4, '"running":1.0'),
-    (4, '"running":18446744073709551616'),
-    (5, MISSING),
-    (5, '"command-line":null'),
-    (5, '"command-line":"t"'),
-    (6, '"stress-index":{"current":0,"total":0}'),
-]
-
-NO_OUTPUTS = [
-    '{"output":{"output":{"split":{"stdout":"6f6"}}}}',
-    '{"output":{"output":{"combined":null}}}',
-    '{"output":{}}',
-    '{"start-error":null}',
-    '"start-error"',
-    '{"output":{"output":{"split":{}}},"start-error":""}',
-]
-
-NO_OBJECTS = ["null", "1", '"run-started"', "[]", "{}"]
-
-WITHOUT_TIMES = [
-    '{"elapsed":{"secs":0,"nanos":0},"kind":"run-paused","setup-scripts-running":0,"running":0}',
-    (
-        '{"timestamp":{"secs":0,"nanos":0,"offset":0},"kind":"run-paused",'
-        '"setup-scripts-running":0,"running":0}'
-    ),
-    (
-        '{"timestamp":null,"elapsed":{"secs":0,"nanos":0},"kind":"run-paused",'
-        '"setup-scripts-running":0,"running":0}'
-    ),
-    (
-        '{"timestamp":{"secs":0,"nanos":0,"offset":0},"elapsed":0,"kind":"run-paused",'
-        '"setup-scripts-running":0,"running":0}'
-    ),
-]
+NO_STATUSES = {
+    "run-statuses": [
+        "{}",
+        "[]",
+        '"pass"',
+        '{"flaky-result":"pass"}',
+        '{"statuses":[],"flaky-result":"pass"}',
+        '{"statuses":null,"flaky-result":"pass"}',
+        '{"statuses":' + NOT_EXECUTED + ',"flaky-result":"pass"}',
+        '{"statuses":[{}],"flaky-result":"pass"}',
+        '{"statuses":[' + NOT_EXECUTED + "]}",
+        '{"statuses":[' + NOT_EXECUTED + '],"flaky-result":null}',
+        '{"statuses":[' + NOT_EXECUTED + '],"flaky-result":"Pass"}',
+        '{"statuses":[' + NOT_EXECUTED + '],"flaky-result":true}',
+    ],
+}
 
 
-# What makes a case of a name and a line, and the members of an event with their JSON.
-CaseOf: TypeAlias = Callable[[str, str], Case]
-Fields: TypeAlias = Sequence[tuple[str, str]]
+# The members of an event with their JSON, and the JSON that each of some may not have.
+Fields: TypeAlias = Mapping[str, str]
+Others: TypeAlias = Mapping[str, Sequence[str]]
 
 
 def event_of(members: Fields) -> str:
     times = '{"timestamp":{"secs":1000,"nanos":0,"offset":0},"elapsed":{"secs":0,"nanos":0}'
-    return times + "".join(f',"{key}":{value}' for key, value in members) + "}"
+    return times + "".join(f',"{key}":{value}' for key, value in members.items()) + "}"
 
 
-def object_of(members: Sequence[str], at: int | None = None, other: str = "") -> str:
-    """The object of these members, with another in the place of the one at `at`."""
-    chosen = [other if number == at else member for number, member in enumerate(members)]
-    return ",".join(['{"x":0', *chosen]) + "}"
+def without(members: Fields, key: str) -> dict[str, str]:
+    return {name: value for name, value in members.items() if name != key}
 
 
 def required(
@@ -617,7 +381,7 @@ def required(
     read: CaseOf,
     refused: CaseOf,
     members: Fields,
-    others: Fields,
+    others: Others,
     tried: Sequence[str] = (),
 ) -> Iterator[Case]:
     """The members make an event.
@@ -627,36 +391,15 @@ def required(
     Without those that are `tried`, the event is one of another kind that is tried already.
     """
     yield read(name, event_of(members))
-    for key in [key for key, _ in members if key not in tried]:
-        rest = [member for member in members if member[0] != key]
+    for key in [key for key in members if key not in tried]:
+        rest = without(members, key)
         yield refused(f"{name} without {key}", event_of(rest))
-        yield refused(f"{name} with null for {key}", event_of([*rest, (key, "null")]))
-    for key, other in others:
-        rest = [member for member in members if member[0] != key]
-        yield refused(f"{name} with {key} {other}", event_of([*rest, (key, other)]))
+        yield refused(f"{name} with null for {key}", event_of({**rest, key: "null"}))
+    for key, other in ((key, other) for key, values in others.items() for other in values):
+        event = event_of({**without(members, key), key: other})
+        yield refused(f"{name} with {key} {other}", event)
 
 
-def replaced(
-    name: str,
-    read: CaseOf,
-    refused: CaseOf,
-    members: Sequence[str],
-    others: Sequence[tuple[int, str]],
-    before: str = "",
-    after: str = "",
-) -> Iterator[Case]:
-    """The members make what stands between these texts, and not with another in the place of one of
-    them.
-    """
-    yield read(name, before + object_of(members) + after)
-    for at, other in others:
-        yield refused(
-            f"{name} with {other} for {members[at]}", before + object_of(members, at, other) + after
-        )
-
-
-IN_SESSION = (read_of_session, refused_in_session)
-IN_LOG = (read_of_log, refused_in_log)
 CASES = [
     *required("start of a sub-run", *IN_SESSION, SUB_RUN_START, NO_SUB_RUN_START),
     *required("start of a setup script", *IN_SESSION, SCRIPT_START, NO_SCRIPT_START),
@@ -665,7 +408,7 @@ CASES = [
     *required("retry", *IN_SESSION, RETRY, NO_RETRY),
     *required("skipped test", *IN_SESSION, SKIP, NO_SKIP),
     *required("cancel", *IN_SESSION, CANCEL, NO_CANCEL),
-    *required("pause", *IN_SESSION, PAUSE, NO_KIND + NO_PAUSE),
+    *required("pause", *IN_SESSION, PAUSE, NO_KIND | NO_PAUSE),
     *required("continuation", *IN_SESSION, CONTINUATION, NO_PAUSE, tried=("kind",)),
     *required("end of a sub-run", *IN_SESSION, SUB_RUN_END, NO_SUB_RUN_END),
     *required("end of a run", *IN_SESSION, RUN_END, NO_RUN_END),
@@ -673,23 +416,4 @@ CASES = [
     *required("failed attempt", *IN_SESSION, FAILURE, NO_FAILURE),
     *required("end of a test", *IN_SESSION, TEST_END, NO_TEST_END),
     *required("end of a test", *IN_LOG, TEST_END, NO_STATUSES),
-    *replaced(
-        "status of a setup script",
-        *IN_SESSION,
-        SCRIPT_STATUS,
-        NO_SCRIPT_STATUS,
-        BEFORE_SCRIPT_STATUS,
-        "}",
-    ),
-    *replaced("status of an attempt", *IN_SESSION, ATTEMPT, NO_ATTEMPT, BEFORE_ATTEMPT, "}"),
-    *replaced("start of a run", *IN_SESSION, RUN_START, NO_RUN_START),
-    *replaced("start of a test", *IN_LOG, TEST_START, NO_TEST_START),
-    *(
-        refused_in_session(f"end of a test with {output}", end_after(attempt_with(output)))
-        for output in NO_OUTPUTS
-    ),
-    refused_in_session("end of a test without attempts", end_after()),
-    refused_in_session("end of a test with another object for an attempt", end_after("{}")),
-    *(refused_in_session(f"no object: {text}", text) for text in NO_OBJECTS),
-    *(refused_in_session(f"no times: {text}", text) for text in WITHOUT_TIMES),
 ]

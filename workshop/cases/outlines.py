@@ -69,6 +69,46 @@ def outline(phases: str, lines: str) -> Holds:
     )
 
 
+def process_named(pid: int, name: str) -> str:
+    """The outline of a process that gets its name."""
+    return (
+        f'M :process_name {pid}/0 0 {{"name":"{name}"}}\n'
+        f'M :process_sort_index {pid}/0 0 {{"sort_index":{pid}}}\n'
+    )
+
+
+def row_named(pid: int, tid: int, name: str) -> str:
+    """The outline of a row that gets its name."""
+    return (
+        f'M :thread_name {pid}/{tid} 0 {{"name":"{name}"}}\n'
+        f'M :thread_sort_index {pid}/{tid} 0 {{"sort_index":{tid}}}\n'
+    )
+
+
+# A run that begins at second 1000, and the first row of a test.
+RUN_BEGUN = (
+    process_named(0, "nextest run (default)")
+    + row_named(0, 1, "run")
+    + "B run:test run 0/1 1000000000\n"
+)
+FIRST_TEST_NAMED = process_named(2, "alpha::a") + row_named(2, 10000, "slot-0")
+
+
+def concurrency(first: int, running: str) -> str:
+    """The outline of what runs at each second from the first on, as SCRIPTS/TESTS."""
+    counts = [count.split("/") for count in running.split()]
+    return "".join(
+        f"C run:concurrency 0/0 {secs}000000 "
+        f'{{"running_scripts":{scripts},"running_tests":{tests}}}\n'
+        for secs, (scripts, tests) in enumerate(counts, first)
+    )
+
+
+def failures(secs: int, failed: int) -> str:
+    """The outline of the results at this second, where so many tests failed."""
+    return f'C run:test results 0/0 {secs}000000 {{"failed":{failed},"flaky":0,"passed":0}}\n'
+
+
 def after(before: bytes, lines: str) -> Holds:
     """A trace that has the trace events of an earlier one, and then these, each in a line."""
     earlier = events_of(before)
@@ -82,6 +122,28 @@ def options(group_by: str, message_format: str = "json") -> Words:
     return "--group-by", group_by, "--message-format", message_format
 
 
+def of_both(
+    name: str,
+    lines: Sequence[Line],
+    live: Wanted | Beside,
+    logged: Wanted | Beside,
+    group_by: str,
+    message_format: str = "json",
+) -> list[Case]:
+    """The cases of events of which `record` and `trace` print this."""
+    words = options(group_by, message_format)
+    return [
+        Case(
+            f"{name}, record by {group_by}",
+            ("record", "b", *words),
+            traced_session(lines),
+            out=live,
+            file=begins(MAGIC),
+        ),
+        Case(f"{name}, trace by {group_by}", ("trace", *words), traced_bundle(lines), out=logged),
+    ]
+
+
 def printed(
     name: str,
     lines: Sequence[Line],
@@ -90,17 +152,7 @@ def printed(
     message_format: str = "json",
 ) -> list[Case]:
     """The cases of events whose trace is this, or of which that is said."""
-    words = options(group_by, message_format)
-    return [
-        Case(
-            f"{name}, record by {group_by}",
-            ("record", "b", *words),
-            traced_session(lines),
-            out=out,
-            file=begins(MAGIC),
-        ),
-        Case(f"{name}, trace by {group_by}", ("trace", *words), traced_bundle(lines), out=out),
-    ]
+    return of_both(name, lines, out, out, group_by, message_format)
 
 
 def outlined(name: str, phases: str, lines: Sequence[Line], wanted: str) -> list[Case]:
@@ -114,21 +166,11 @@ def drawn(
     """The cases of an event that draws these trace events after those before it, which draw what
     they draw without it.
     """
-    words, lines = options(group_by), [*before, last]
     live, logged = (
         Beside(form(before), lambda trace: after(trace, wanted))
         for form in (traced_session, traced_bundle)
     )
-    return [
-        Case(
-            f"{name}, record by {group_by}",
-            ("record", "b", *words),
-            traced_session(lines),
-            out=live,
-            file=begins(MAGIC),
-        ),
-        Case(f"{name}, trace by {group_by}", ("trace", *words), traced_bundle(lines), out=logged),
-    ]
+    return of_both(name, [*before, last], live, logged, group_by)
 
 
 def kinds_of(lines: Sequence[Line]) -> str:

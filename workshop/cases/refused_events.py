@@ -6,6 +6,7 @@ from __future__ import annotations
 
 from typing import NamedTuple
 
+from workshop.cases import histories
 from workshop.cases.case import SOME, Case, entry_is, has
 from workshop.cases.events import (
     NOT_STARTED,
@@ -28,27 +29,6 @@ from workshop.cases.events import (
     sub_run_started,
     test_skipped,
 )
-from workshop.cases.histories import (
-    FAULTY,
-    Line,
-    cancel,
-    end,
-    fail,
-    go_on,
-    numbered,
-    pause,
-    retry,
-    run,
-    run_end,
-    script,
-    script_end,
-    script_slow,
-    skip,
-    slow,
-    start,
-    sub_run,
-    sub_run_end,
-)
 from workshop.cases.made import Members, bundle, duration, instant, line, log_of
 from workshop.cases.outlines import GROUPINGS, refused, refused_by_record, refused_by_trace
 from workshop.cases.texts import (
@@ -64,7 +44,7 @@ from workshop.cases.texts import (
 class Refusal(NamedTuple):
     """A history, the line that refuses it, and the status."""
 
-    lines: list[Line]
+    lines: list[histories.Line]
     fault: str
     status: int = 8
 
@@ -80,120 +60,171 @@ class Last(NamedTuple):
 
 # What ends or is slow without having started.
 MISSING = [
-    Refusal([end(1000, 1, 0)], "MissingTestStart event=1 binary_id=alpha::a test_name=t1"),
-    Refusal([fail(1000, 1)], "MissingTestStart event=1 binary_id=alpha::a test_name=t1"),
-    Refusal([slow(1000, 3)], "MissingTestStart event=1 binary_id=beta::b test_name=t3"),
     Refusal(
-        [run(1000), start(1001, 1, 0), end(1002, 1, 0), end(1003, 1, 0)],
+        [histories.end(1000, 1, 0)], "MissingTestStart event=1 binary_id=alpha::a test_name=t1"
+    ),
+    Refusal([histories.fail(1000, 1)], "MissingTestStart event=1 binary_id=alpha::a test_name=t1"),
+    Refusal([histories.slow(1000, 3)], "MissingTestStart event=1 binary_id=beta::b test_name=t3"),
+    Refusal(
+        [
+            histories.run(1000),
+            histories.start(1001, 1, 0),
+            histories.end(1002, 1, 0),
+            histories.end(1003, 1, 0),
+        ],
         "MissingTestStart event=4 binary_id=alpha::a test_name=t1",
     ),
     Refusal(
-        [start(1000, 1, 0), fail(1001, 1), end(1002, 1, 0)],
+        [histories.start(1000, 1, 0), histories.fail(1001, 1), histories.end(1002, 1, 0)],
         "MissingTestStart event=3 binary_id=alpha::a test_name=t1",
     ),
     Refusal(
-        [start(1000, 1, 0), fail(1001, 1), slow(1002, 1)],
+        [histories.start(1000, 1, 0), histories.fail(1001, 1), histories.slow(1002, 1)],
         "MissingTestStart event=3 binary_id=alpha::a test_name=t1",
     ),
     Refusal(
-        [start(1000, 1, 0), fail(1001, 1), fail(1002, 1)],
+        [histories.start(1000, 1, 0), histories.fail(1001, 1), histories.fail(1002, 1)],
         "MissingTestStart event=3 binary_id=alpha::a test_name=t1",
     ),
     Refusal(
-        [start(1000, 1, 0), end(1001, 2, 0)],
+        [histories.start(1000, 1, 0), histories.end(1001, 2, 0)],
         "MissingTestStart event=2 binary_id=alpha::a test_name=t2",
     ),
-    Refusal([script_end(1000, 0, 1)], "MissingScriptStart event=1 script_id=db1"),
-    Refusal([script_slow(1000, 1)], "MissingScriptStart event=1 script_id=db1"),
+    Refusal([histories.script_end(1000, 0, 1)], "MissingScriptStart event=1 script_id=db1"),
+    Refusal([histories.script_slow(1000, 1)], "MissingScriptStart event=1 script_id=db1"),
     Refusal(
-        [script(1000, 0, 1), script_end(1001, 0, 2)], "MissingScriptStart event=2 script_id=db2"
+        [histories.script(1000, 0, 1), histories.script_end(1001, 0, 2)],
+        "MissingScriptStart event=2 script_id=db2",
     ),
     Refusal(
-        [script(1000, 0, 1), script_end(1001, 1, 1)], "MissingScriptStart event=2 script_id=db1"
+        [histories.script(1000, 0, 1), histories.script_end(1001, 1, 1)],
+        "MissingScriptStart event=2 script_id=db1",
     ),
     Refusal(
-        [script(1000, 0, 1), script_slow(1001, 1), script_slow(1002, 2)],
+        [
+            histories.script(1000, 0, 1),
+            histories.script_slow(1001, 1),
+            histories.script_slow(1002, 2),
+        ],
         "MissingScriptStart event=3 script_id=db2",
     ),
-    Refusal([run(1000), sub_run_end(1001)], "MissingStressSubRunStart event=2"),
+    Refusal([histories.run(1000), histories.sub_run_end(1001)], "MissingStressSubRunStart event=2"),
     Refusal(
-        [sub_run(1000), sub_run_end(1001), sub_run_end(1002)], "MissingStressSubRunStart event=3"
+        [histories.sub_run(1000), histories.sub_run_end(1001), histories.sub_run_end(1002)],
+        "MissingStressSubRunStart event=3",
     ),
 ]
 
 # What starts while it is open, or on a slot that is held.
 OPEN = [
-    Refusal([run(1000), run(1001)], "SpanAlreadyOpen event=2 span=Run"),
-    Refusal([run(1000), run_end(1001), run(1002), run(1003)], "SpanAlreadyOpen event=4 span=Run"),
-    Refusal([sub_run(1000), sub_run(1001)], "SpanAlreadyOpen event=2 span=SubRun"),
-    Refusal([script(1000, 0, 1), script(1001, 0, 2)], "SpanAlreadyOpen event=2 span=Script 0"),
+    Refusal([histories.run(1000), histories.run(1001)], "SpanAlreadyOpen event=2 span=Run"),
     Refusal(
-        [start(1000, 1, 0), run(1001), start(1002, 1, 1)],
+        [histories.run(1000), histories.run_end(1001), histories.run(1002), histories.run(1003)],
+        "SpanAlreadyOpen event=4 span=Run",
+    ),
+    Refusal(
+        [histories.sub_run(1000), histories.sub_run(1001)], "SpanAlreadyOpen event=2 span=SubRun"
+    ),
+    Refusal(
+        [histories.script(1000, 0, 1), histories.script(1001, 0, 2)],
+        "SpanAlreadyOpen event=2 span=Script 0",
+    ),
+    Refusal(
+        [histories.start(1000, 1, 0), histories.run(1001), histories.start(1002, 1, 1)],
         "SpanAlreadyOpen event=3 span=Test binary_id=alpha::a test_name=t1",
     ),
     Refusal(
-        [retry(1000, 1, 0), retry(1001, 1, 0)],
+        [histories.retry(1000, 1, 0), histories.retry(1001, 1, 0)],
         "SpanAlreadyOpen event=2 span=Test binary_id=alpha::a test_name=t1",
     ),
     Refusal(
-        [pause(1000, 0), start(1001, 1, 0), start(1002, 1, 1)],
+        [histories.pause(1000, 0), histories.start(1001, 1, 0), histories.start(1002, 1, 1)],
         "SpanAlreadyOpen event=3 span=Test binary_id=alpha::a test_name=t1",
     ),
-    Refusal([start(1000, 1, 7), start(1001, 2, 7)], "SlotBusy event=2 slot=7"),
-    Refusal([start(1000, 1, 7), retry(1001, 3, 7)], "SlotBusy event=2 slot=7"),
+    Refusal([histories.start(1000, 1, 7), histories.start(1001, 2, 7)], "SlotBusy event=2 slot=7"),
+    Refusal([histories.start(1000, 1, 7), histories.retry(1001, 3, 7)], "SlotBusy event=2 slot=7"),
     Refusal(
-        [start(1000, 1, 0), start(1001, 2, 1), start(1002, 1, 1)],
+        [histories.start(1000, 1, 0), histories.start(1001, 2, 1), histories.start(1002, 1, 1)],
         "SpanAlreadyOpen event=3 span=Test binary_id=alpha::a test_name=t1",
     ),
-    Refusal([start(1000, 1, 0), pause(1001, 0), retry(1002, 3, 0)], "SlotBusy event=3 slot=0"),
+    Refusal(
+        [histories.start(1000, 1, 0), histories.pause(1001, 0), histories.retry(1002, 3, 0)],
+        "SlotBusy event=3 slot=0",
+    ),
 ]
 
 # Numbers of rows and counts that are out of range, with the statuses.
 NUMBERS = [
     Refusal(
-        [start(1000, 1, 18446744073709541616)],
+        [histories.start(1000, 1, 18446744073709541616)],
         "RowOutOfRange event=1 number=18446744073709541616",
         9,
     ),
     Refusal(
-        [retry(1000, 1, 18446744073709551615)],
+        [histories.retry(1000, 1, 18446744073709551615)],
         "RowOutOfRange event=1 number=18446744073709551615",
         9,
     ),
     Refusal(
-        [script(1000, 18446744073709541616, 1)],
+        [histories.script(1000, 18446744073709541616, 1)],
         "RowOutOfRange event=1 number=18446744073709541616",
         9,
     ),
     Refusal(
-        [start(1000, 1, 18446744073709541615), start(1001, 1, 18446744073709541616)],
+        [
+            histories.start(1000, 1, 18446744073709541615),
+            histories.start(1001, 1, 18446744073709541616),
+        ],
         "SpanAlreadyOpen event=2 span=Test binary_id=alpha::a test_name=t1",
         8,
     ),
-    Refusal([start(1000, 1, 0), end(1001, 1, 18446744073709551615)], "CountOutOfRange event=2", 9),
     Refusal(
-        [end(1000, 1, 18446744073709551615)],
+        [histories.start(1000, 1, 0), histories.end(1001, 1, 18446744073709551615)],
+        "CountOutOfRange event=2",
+        9,
+    ),
+    Refusal(
+        [histories.end(1000, 1, 18446744073709551615)],
         "MissingTestStart event=1 binary_id=alpha::a test_name=t1",
         8,
     ),
-    Refusal([pause(1000, 18446744073709551615), script(1001, 0, 1)], "CountOutOfRange event=2", 9),
     Refusal(
-        [cancel(1000, 18446744073709551614), script(1001, 0, 1), script(1002, 1, 2)],
+        [histories.pause(1000, 18446744073709551615), histories.script(1001, 0, 1)],
+        "CountOutOfRange event=2",
+        9,
+    ),
+    Refusal(
+        [
+            histories.cancel(1000, 18446744073709551614),
+            histories.script(1001, 0, 1),
+            histories.script(1002, 1, 2),
+        ],
         "CountOutOfRange event=3",
         9,
     ),
     Refusal(
-        [script(1000, 0, 1), go_on(1001, 18446744073709551615), script(1002, 1, 1)],
+        [
+            histories.script(1000, 0, 1),
+            histories.go_on(1001, 18446744073709551615),
+            histories.script(1002, 1, 1),
+        ],
         "CountOutOfRange event=3",
         9,
     ),
     Refusal(
-        [script(1000, 0, 1), pause(1001, 18446744073709551615), script(1002, 0, 1)],
+        [
+            histories.script(1000, 0, 1),
+            histories.pause(1001, 18446744073709551615),
+            histories.script(1002, 0, 1),
+        ],
         "SpanAlreadyOpen event=3 span=Script 0",
         8,
     ),
     Refusal(
-        [pause(1000, 18446744073709551615), script(1001, 18446744073709551615, 1)],
+        [
+            histories.pause(1000, 18446744073709551615),
+            histories.script(1001, 18446744073709551615, 1),
+        ],
         "RowOutOfRange event=2 number=18446744073709551615",
         9,
     ),
@@ -204,37 +235,49 @@ FAR = 9223372036855
 
 # An event of each kind at that second, first in its history.
 LATE_EVENTS = [
-    run(FAR),
-    run_end(FAR),
-    sub_run(FAR),
-    sub_run_end(FAR),
-    script(FAR, 0, 1),
-    script_end(FAR, 0, 1),
-    script_slow(FAR, 1),
-    start(FAR, 1, 0),
-    fail(FAR, 1),
-    retry(FAR, 1, 0),
-    end(FAR, 1, 0),
-    slow(FAR, 1),
-    skip(FAR, 1),
-    pause(FAR, 0),
-    go_on(FAR, 0),
-    cancel(FAR, 0),
-    run(-9223372036855),
+    histories.run(FAR),
+    histories.run_end(FAR),
+    histories.sub_run(FAR),
+    histories.sub_run_end(FAR),
+    histories.script(FAR, 0, 1),
+    histories.script_end(FAR, 0, 1),
+    histories.script_slow(FAR, 1),
+    histories.start(FAR, 1, 0),
+    histories.fail(FAR, 1),
+    histories.retry(FAR, 1, 0),
+    histories.end(FAR, 1, 0),
+    histories.slow(FAR, 1),
+    histories.skip(FAR, 1),
+    histories.pause(FAR, 0),
+    histories.go_on(FAR, 0),
+    histories.cancel(FAR, 0),
+    histories.run(-9223372036855),
 ]
 
 # Lines that are no events, and events before them: a session is refused for its lines first, and
 # has its head as line 1.
 UNREAD_LINES = [
-    Refusal([FAULTY], "ParseEvent line_number=2", 5),
-    Refusal([run(1000), FAULTY, run(1001)], "ParseEvent line_number=3", 5),
-    Refusal([run(1000), run(1001), FAULTY], "ParseEvent line_number=4", 5),
+    Refusal([histories.FAULTY], "ParseEvent line_number=2", 5),
+    Refusal(
+        [histories.run(1000), histories.FAULTY, histories.run(1001)], "ParseEvent line_number=3", 5
+    ),
+    Refusal(
+        [histories.run(1000), histories.run(1001), histories.FAULTY], "ParseEvent line_number=4", 5
+    ),
 ]
 
 UNREAD_LOGS = [
-    Refusal([FAULTY], "ReadError ParseEvent line_number=1", 5),
-    Refusal([run(1000), FAULTY, run(1001)], "ReadError ParseEvent line_number=2", 5),
-    Refusal([run(1000), run(1001), FAULTY], "SpanAlreadyOpen event=2 span=Run", 8),
+    Refusal([histories.FAULTY], "ReadError ParseEvent line_number=1", 5),
+    Refusal(
+        [histories.run(1000), histories.FAULTY, histories.run(1001)],
+        "ReadError ParseEvent line_number=2",
+        5,
+    ),
+    Refusal(
+        [histories.run(1000), histories.run(1001), histories.FAULTY],
+        "SpanAlreadyOpen event=2 span=Run",
+        8,
+    ),
 ]
 
 # Events at second 1002.
@@ -381,9 +424,12 @@ AFTER_START = [
     (script_started(), b""),
     (slow_script("db", "sh", duration(1)), NO_SCRIPT),
     (script_ended(NOT_EXECUTED), NO_SCRIPT),
-    (slow_test(numbered(1), FIRST_ATTEMPT, duration(1)), NO_TEST),
-    (attempt_failed(status(1, 2, NOT_EXECUTED, duration(1)), numbered(1), duration(1)), NO_TEST),
-    (retry_started(numbered(1), slot(), FIRST_ATTEMPT), b""),
+    (slow_test(histories.numbered(1), FIRST_ATTEMPT, duration(1)), NO_TEST),
+    (
+        attempt_failed(status(1, 2, NOT_EXECUTED, duration(1)), histories.numbered(1), duration(1)),
+        NO_TEST,
+    ),
+    (retry_started(histories.numbered(1), slot(), FIRST_ATTEMPT), b""),
     (test_skipped("t1", "ignored", "none", "alpha::a"), b""),
     (stopped("run-begin-cancel", reason="signal"), b""),
     (stopped("run-continued"), b""),

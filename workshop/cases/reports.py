@@ -163,81 +163,75 @@ FAILURE = (
     '"type-text":"test abort"}}'
 )
 
-# What a report says at a path of its case, of a test whose attempts ended and wrote so.
+# What a report says at a path of its case, and the tests of which it says so: how their attempts
+# ended, what these wrote, and flags.
 ENDS = {
-    "/status/non-success/kind": (
-        ("c", "s", "", '"failure"'),
-        ("a", "s", "", '"failure"'),
-        ("T", "s", "", '"failure"'),
-        ("x", "s", "", '"error"'),
-        ("L", "s", "", '"error"'),
-        ("lc", "ss", "", '"error"'),
-    ),
-    "/status/non-success/type-text": (
-        ("c", "s", "", '"test failure with exit code 101"'),
-        ("C", "s", "", '"test failure with exit code 101 (leaked handles)"'),
-        ("a", "s", "", '"test abort"'),
-        ("A", "s", "", '"test abort (leaked handles)"'),
-        ("T", "s", "", '"test timeout"'),
-        ("x", "s", "", '"execution failure"'),
-        ("L", "s", "", '"test exited with code 0, but leaked handles so was marked failed"'),
-        ("lc", "ss", "", '"test passed but leaked handles"'),
-    ),
-    "/status": (
-        ("p", "s", "", '{"success":[]}'),
-        ("l", "s", "f", '{"success":[]}'),
-        ("t", "s", "", '{"success":[]}'),
-        ("ap", "ss", "", FLAKY),
-        ("ap", "ss", "fs", FLAKY),
-        ("ap", "ss", "f", FLAKY_FAILURE),
-        ("acx", "sss", "f", FAILURE),
-    ),
-    "/time": (
-        ("p", "s", "", '{"nanos":0,"secs":1}'),
-        ("cp", "ss", "f", '{"nanos":0,"secs":2}'),
-        ("cc", "ss", "", '{"nanos":0,"secs":1}'),
-    ),
-    "/system-out": (
-        ("p", "s", "+", '"stdout"'),
-        ("p", "s", "-", ""),
-        ("p", "b", "+-", '"both"'),
-        ("p", "e", "+", '"(stdout not captured)"'),
-        ("p", "u", "+", '"a\uFFFDb"'),
-        ("x", "!", "-", '"(process failed to start)"'),
-        ("x", "!", "+", ""),
-        ("cp", "sb", "f+", '"both"'),
-        ("cp", "sb", "f-", ""),
-        ("cc", "sb", "-", '"stdout"'),
-    ),
-    "/system-err": (
-        ("p", "s", "+", '"stderr"'),
-        ("p", "b", "+", '"(stdout and stderr are combined)"'),
-        ("p", "o", "+", '"(stderr not captured)"'),
-        ("p", "u", "+", '""'),
-        ("x", "!", "-", '"(process failed to start)"'),
-    ),
-    "/status/success/0/system-out": (("cp", "sb", "-", '"stdout"'), ("cp", "sb", "+", "")),
-    "/status/success/0/system-err": (("cp", "sb", "-", '"stderr"'), ("cp", "sb", "+", "")),
-    "/status/non-success/reruns/0/system-out": (
-        ("ck", "so", "-", '"stdout"'),
-        ("cc", "sb", "+", ""),
-    ),
-    "/status/non-success/reruns/0/system-err": (
-        ("ck", "so", "-", '"(stderr not captured)"'),
-        ("cC", "sb", "-", '"(stdout and stderr are combined)"'),
-        ("cc", "sb", "+", ""),
-    ),
-    "/status/non-success/message": (
-        ("c", "E", "", '"first"'),
-        ("x", "!", "", '"no such file"'),
-        ("c", "s", "", ""),
-        ("cp", "sE", "f", '"first"'),
-    ),
-    "/status/non-success/description": (
-        ("c", "E", "", r'"first\nsecond"'),
-        ("x", "!", "", '"no such file"'),
-        ("cp", "ss", "f", ""),
-    ),
+    "/status/non-success/kind": {
+        '"failure"': ["c s", "a s", "T s"],
+        '"error"': ["x s", "L s", "lc ss"],
+    },
+    "/status/non-success/type-text": {
+        '"test failure with exit code 101"': ["c s"],
+        '"test failure with exit code 101 (leaked handles)"': ["C s"],
+        '"test abort"': ["a s"],
+        '"test abort (leaked handles)"': ["A s"],
+        '"test timeout"': ["T s"],
+        '"execution failure"': ["x s"],
+        '"test exited with code 0, but leaked handles so was marked failed"': ["L s"],
+        '"test passed but leaked handles"': ["lc ss"],
+    },
+    "/status": {
+        '{"success":[]}': ["p s", "l s f", "t s"],
+        FLAKY: ["ap ss", "ap ss fs"],
+        FLAKY_FAILURE: ["ap ss f"],
+        FAILURE: ["acx sss f"],
+    },
+    "/time": {
+        '{"nanos":0,"secs":1}': ["p s", "cc ss"],
+        '{"nanos":0,"secs":2}': ["cp ss f"],
+    },
+    "/system-out": {
+        '"stdout"': ["p s +", "cc sb -"],
+        "": ["p s -", "x ! +", "cp sb f-"],
+        '"both"': ["p b +-", "cp sb f+"],
+        '"(stdout not captured)"': ["p e +"],
+        '"a\uFFFDb"': ["p u +"],
+        '"(process failed to start)"': ["x ! -"],
+    },
+    "/system-err": {
+        '"stderr"': ["p s +"],
+        '"(stdout and stderr are combined)"': ["p b +"],
+        '"(stderr not captured)"': ["p o +"],
+        '""': ["p u +"],
+        '"(process failed to start)"': ["x ! -"],
+    },
+    "/status/success/0/system-out": {
+        '"stdout"': ["cp sb -"],
+        "": ["cp sb +"],
+    },
+    "/status/success/0/system-err": {
+        '"stderr"': ["cp sb -"],
+        "": ["cp sb +"],
+    },
+    "/status/non-success/reruns/0/system-out": {
+        '"stdout"': ["ck so -"],
+        "": ["cc sb +"],
+    },
+    "/status/non-success/reruns/0/system-err": {
+        '"(stderr not captured)"': ["ck so -"],
+        '"(stdout and stderr are combined)"': ["cC sb -"],
+        "": ["cc sb +"],
+    },
+    "/status/non-success/message": {
+        '"first"': ["c E", "cp sE f"],
+        '"no such file"': ["x !"],
+        "": ["c s"],
+    },
+    "/status/non-success/description": {
+        r'"first\nsecond"': ["c E"],
+        '"no such file"': ["x !"],
+        "": ["cp ss f"],
+    },
 }
 
 # What stands in system-out and system-err of a test that ended and wrote so. What isn't stored has
@@ -260,8 +254,9 @@ REFUSED = (("pp", "ss", ""), ("tc", "ss", ""), ("cpc", "sss", ""))
 
 def ends() -> Iterator[Case]:
     """What a report says of each end of a test."""
-    for path, rows in ENDS.items():
-        for ended, wrote, flags, text in rows:
+    for path, texts in ENDS.items():
+        for text, words in ((text, words) for text, tests in texts.items() for words in tests):
+            ended, wrote, flags = (*words.split(), "")[:3]
             yield Case(
                 f"{path} of {ended} {wrote} {flags}",
                 REPORTED,

@@ -21,16 +21,10 @@ from workshop.cases.head_values import SCOPE
 from workshop.cases.histories import (
     TRACED_MANIFEST,
     Line,
-    end,
-    fail,
-    go_on,
-    pause,
-    retry,
     run,
-    run_end,
-    start,
     traced_log,
     traced_session,
+    two_slots,
 )
 from workshop.cases.made import bundle, compact, held, log_of
 from workshop.cases.texts import RUN_ID
@@ -59,22 +53,7 @@ def flaky(secs: int, number: int, counts_as: str) -> Line:
 
 def retried(counts_as: str) -> list[Line]:
     """Two binaries with two tests each, a pause, and a retry that passes."""
-    return [
-        run(1000),
-        start(1000, 1, 0),
-        start(1001, 2, 1),
-        end(1002, 1, 0),
-        start(1002, 3, 0),
-        pause(1003, 0),
-        go_on(1006, 0),
-        fail(1007, 2),
-        retry(1008, 2, 1),
-        end(1009, 3, 0),
-        flaky(1010, 2, counts_as),
-        start(1010, 4, 1),
-        end(1011, 4, 0),
-        run_end(1011),
-    ]
+    return two_slots(second_end=flaky(1010, 2, counts_as))
 
 
 def selection(suites: Sequence[Suite], root: str = RUN_ID, scope: str = SCOPE) -> str:

@@ -21,27 +21,11 @@ from workshop.cases.histories import (
     traced_bundle,
     traced_log,
     traced_session,
+    two_slots,
 )
 from workshop.cases.made import bundle, log_of, logged_bundle
 from workshop.cases.texts import RUN_PAUSED, session_of
 
-# Two slots, a pause, and a test that is tried again.
-TWO_SLOTS = [
-    run(1000),
-    start(1000, 1, 0),
-    start(1001, 2, 1),
-    end(1002, 1, 0),
-    start(1002, 3, 0),
-    pause(1003, 0),
-    go_on(1006, 0),
-    fail(1007, 2),
-    retry(1008, 2, 1),
-    end(1009, 3, 0),
-    end(1010, 2, 0),
-    start(1010, 4, 1),
-    end(1011, 4, 0),
-    run_end(1011),
-]
 TWO_SLOTS_USED = (
     "run=11000000000\n"
     "slot=0 busy=6000000000 paused=3000000000 idle=2000000000\n"
@@ -301,7 +285,7 @@ CASES = [
     Case(
         "slots of two slots",
         ("slots",),
-        Recorded(traced_session(TWO_SLOTS)),
+        Recorded(traced_session(two_slots())),
         out=TWO_SLOTS_USED.encode(),
     ),
     Case(

@@ -23,7 +23,7 @@ from workshop.cases.histories import (
     sub_run,
     sub_run_end,
 )
-from workshop.cases.outlines import listed, outline, outlined, printed
+from workshop.cases.outlines import concurrency, failures, listed, outline, outlined, printed
 
 CI_RUN = {
     "kind": "run-started",
@@ -153,6 +153,8 @@ THE_LAST_RUN_SAID = (
 
 # Counters.
 
+GREATEST = 18446744073709551615
+
 NINE_RUN = {
     "kind": "run-begin-cancel",
     "setup-scripts-running": 5,
@@ -185,7 +187,7 @@ MOST_FAILED = {
     },
     "delay-before-next-attempt": {"secs": 0, "nanos": 0},
     "failure-output": "never",
-    "running": 18446744073709551615,
+    "running": GREATEST,
 }
 
 # Setup scripts show how many tests run by the last event that says so, and none before.
@@ -211,24 +213,12 @@ RUNNING_TESTS = [
     script_end(1018, 4, 1),
 ]
 
-RUNNING_TESTS_DRAWN = """\
-C run:concurrency 0/0 1000000000 {"running_scripts":1,"running_tests":0}
-C run:concurrency 0/0 1001000000 {"running_scripts":5,"running_tests":9}
-C run:concurrency 0/0 1002000000 {"running_scripts":6,"running_tests":9}
-C run:concurrency 0/0 1003000000 {"running_scripts":0,"running_tests":7}
-C run:concurrency 0/0 1004000000 {"running_scripts":1,"running_tests":7}
-C run:concurrency 0/0 1005000000 {"running_scripts":2,"running_tests":6}
-C run:concurrency 0/0 1006000000 {"running_scripts":1,"running_tests":6}
-C run:concurrency 0/0 1007000000 {"running_scripts":1,"running_tests":2}
-C run:concurrency 0/0 1008000000 {"running_scripts":2,"running_tests":2}
-C run:concurrency 0/0 1009000000 {"running_scripts":2,"running_tests":18446744073709551615}
-C run:concurrency 0/0 1010000000 {"running_scripts":1,"running_tests":18446744073709551615}
-C run:concurrency 0/0 1011000000 {"running_scripts":1,"running_tests":1}
-C run:concurrency 0/0 1016000000 {"running_scripts":2,"running_tests":1}
-C run:concurrency 0/0 1017000000 {"running_scripts":2,"running_tests":0}
-C run:test results 0/0 1017000000 {"failed":7,"flaky":0,"passed":0}
-C run:concurrency 0/0 1018000000 {"running_scripts":1,"running_tests":0}
-"""
+RUNNING_TESTS_DRAWN = (
+    concurrency(1000, f"1/0 5/9 6/9 0/7 1/7 2/6 1/6 1/2 2/2 2/{GREATEST} 1/{GREATEST} 1/1")
+    + concurrency(1016, "2/1 2/0")
+    + failures(1017, 7)
+    + concurrency(1018, "1/0")
+)
 
 # Setup scripts are counted, never below none, and a pause, a continuation or a cancel says anew how
 # many run.
@@ -247,30 +237,16 @@ RUNNING_SCRIPTS = [
     end(1011, 1, 0),
 ]
 
-RUNNING_SCRIPTS_DRAWN = """\
-C run:concurrency 0/0 1000000000 {"running_scripts":1,"running_tests":0}
-C run:concurrency 0/0 1001000000 {"running_scripts":2,"running_tests":0}
-C run:concurrency 0/0 1002000000 {"running_scripts":0,"running_tests":0}
-C run:concurrency 0/0 1003000000 {"running_scripts":0,"running_tests":0}
-C run:concurrency 0/0 1004000000 {"running_scripts":0,"running_tests":1}
-C run:concurrency 0/0 1005000000 {"running_scripts":0,"running_tests":1}
-C run:concurrency 0/0 1006000000 {"running_scripts":1,"running_tests":1}
-C run:concurrency 0/0 1007000000 {"running_scripts":8,"running_tests":1}
-C run:concurrency 0/0 1008000000 {"running_scripts":8,"running_tests":0}
-C run:concurrency 0/0 1009000000 {"running_scripts":8,"running_tests":1}
-C run:concurrency 0/0 1010000000 {"running_scripts":3,"running_tests":1}
-C run:concurrency 0/0 1011000000 {"running_scripts":3,"running_tests":0}
-C run:test results 0/0 1011000000 {"failed":1,"flaky":0,"passed":0}
-"""
+RUNNING_SCRIPTS_DRAWN = concurrency(
+    1000, "1/0 2/0 0/0 0/0 0/1 0/1 1/1 8/1 8/0 8/1 3/1 3/0"
+) + failures(1011, 1)
 
 # The most setup scripts that are counted.
 MOST_SCRIPTS = [cancel(1000, 18446744073709551614), script(1001, 0, 1), script_end(1002, 0, 1)]
 
-MOST_SCRIPTS_DRAWN = """\
-C run:concurrency 0/0 1000000000 {"running_scripts":18446744073709551614,"running_tests":0}
-C run:concurrency 0/0 1001000000 {"running_scripts":18446744073709551615,"running_tests":0}
-C run:concurrency 0/0 1002000000 {"running_scripts":18446744073709551614,"running_tests":0}
-"""
+MOST_SCRIPTS_DRAWN = concurrency(
+    1000, "18446744073709551614/0 18446744073709551615/0 18446744073709551614/0"
+)
 
 
 def says(other: bytes) -> Holds:

@@ -289,6 +289,35 @@ THREE_OF_AN_ID = [
 
 # Pauses, continuations and cancels.
 
+RUN_NAMED = """\
+{"args":{"name":"nextest run"},"cat":"","name":"process_name","ph":"M","pid":0,"tid":0,"ts":0}
+{"args":{"sort_index":0},"cat":"","name":"process_sort_index","ph":"M","pid":0,"tid":0,"ts":0}
+{"args":{"name":"run"},"cat":"","name":"thread_name","ph":"M","pid":0,"tid":1,"ts":0}
+{"args":{"sort_index":1},"cat":"","name":"thread_sort_index","ph":"M","pid":0,"tid":1,"ts":0}
+"""
+CANCEL = """\
+{"args":{"reason":"test-failure-immediate","running":3,"setup_scripts_running":2},"cat":"run",
+    "name":"cancel","ph":"i","pid":0,
+    "s":"p","tid":1,"ts":1002000000}
+"""
+
+
+def counter(scripts: int, tests: int) -> str:
+    """The counter of what runs at second 1002."""
+    return (
+        f'{{"args":{{"running_scripts":{scripts},"running_tests":{tests}}},"cat":"run",'
+        '"name":"concurrency","ph":"C","pid":0,"tid":0,"ts":1002000000}\n'
+    )
+
+
+def mark(name: str, scripts: int, tests: int) -> str:
+    """The mark of a pause or a continuation at second 1002."""
+    return (
+        f'{{"args":{{"running":{tests},"setup_scripts_running":{scripts}}},"cat":"run",'
+        f'"name":"{name}","ph":"i","pid":0,"s":"p","tid":1,"ts":1002000000}}\n'
+    )
+
+
 CANCELLED = {
     "kind": "run-begin-cancel",
     "setup-scripts-running": 2,
@@ -297,87 +326,48 @@ CANCELLED = {
 }
 
 # The first event.
-CANCELLED_DRAWN = """\
-{"args":{"running_scripts":2,"running_tests":3},"cat":"run","name":"concurrency","ph":"C","pid":0,
-    "tid":0,"ts":1002000000}
-{"args":{"name":"nextest run"},"cat":"","name":"process_name","ph":"M","pid":0,"tid":0,"ts":0}
-{"args":{"sort_index":0},"cat":"","name":"process_sort_index","ph":"M","pid":0,"tid":0,"ts":0}
-{"args":{"name":"run"},"cat":"","name":"thread_name","ph":"M","pid":0,"tid":1,"ts":0}
-{"args":{"sort_index":1},"cat":"","name":"thread_sort_index","ph":"M","pid":0,"tid":1,"ts":0}
-{"args":{"reason":"test-failure-immediate","running":3,"setup_scripts_running":2},"cat":"run",
-    "name":"cancel","ph":"i","pid":0,
-    "s":"p","tid":1,"ts":1002000000}
-"""
+CANCELLED_DRAWN = counter(2, 3) + RUN_NAMED + CANCEL
 
 # After a run and a pause.
-CANCELLED_AGAIN_DRAWN = """\
-{"args":{"running_scripts":2,"running_tests":3},"cat":"run","name":"concurrency","ph":"C","pid":0,
-    "tid":0,"ts":1002000000}
-{"args":{"reason":"test-failure-immediate","running":3,"setup_scripts_running":2},"cat":"run",
-    "name":"cancel","ph":"i","pid":0,
-    "s":"p","tid":1,"ts":1002000000}
-"""
+CANCELLED_AGAIN_DRAWN = counter(2, 3) + CANCEL
 PAUSED = {"kind": "run-paused", "setup-scripts-running": 0, "running": 1}
 
 # A pause as the first event.
-PAUSED_DRAWN = """\
-{"args":{"running_scripts":0,"running_tests":1},"cat":"run","name":"concurrency","ph":"C","pid":0,
-    "tid":0,"ts":1002000000}
-{"args":{"name":"nextest run"},"cat":"","name":"process_name","ph":"M","pid":0,"tid":0,"ts":0}
-{"args":{"sort_index":0},"cat":"","name":"process_sort_index","ph":"M","pid":0,"tid":0,"ts":0}
-{"args":{"name":"run"},"cat":"","name":"thread_name","ph":"M","pid":0,"tid":1,"ts":0}
-{"args":{"sort_index":1},"cat":"","name":"thread_sort_index","ph":"M","pid":0,"tid":1,"ts":0}
-{"args":{"running":1,"setup_scripts_running":0},"cat":"run","name":"paused","ph":"i","pid":0,
-    "s":"p","tid":1,"ts":1002000000}
-"""
+PAUSED_DRAWN = counter(0, 1) + RUN_NAMED + mark("paused", 0, 1)
 
 # All that is open ends before the mark.
-PAUSED_WHILE_OPEN_DRAWN = """\
-{"args":{"running_scripts":0,"running_tests":1},"cat":"run","name":"concurrency","ph":"C","pid":0,
-    "tid":0,"ts":1002000000}
+PAUSED_WHILE_OPEN_DRAWN = (
+    counter(0, 1)
+    + """\
 {"cat":"run","name":"test run","ph":"E","pid":0,"tid":1,"ts":1002000000}
 {"cat":"stress","name":"sub-run","ph":"E","pid":0,"tid":2,"ts":1002000000}
 {"cat":"test","name":"t3","ph":"E","pid":3,"tid":10001,"ts":1002000000}
 {"cat":"test","name":"t1","ph":"E","pid":2,"tid":10004,"ts":1002000000}
 {"cat":"setup-script","name":"db2","ph":"E","pid":1,"tid":10000,"ts":1002000000}
-{"args":{"running":1,"setup_scripts_running":0},"cat":"run","name":"paused","ph":"i","pid":0,
-    "s":"p","tid":1,"ts":1002000000}
 """
+    + mark("paused", 0, 1)
+)
 
 # In a pause.
-PAUSED_AGAIN_DRAWN = """\
-{"args":{"running_scripts":0,"running_tests":1},"cat":"run","name":"concurrency","ph":"C","pid":0,
-    "tid":0,"ts":1002000000}
-{"args":{"running":1,"setup_scripts_running":0},"cat":"run","name":"paused","ph":"i","pid":0,
-    "s":"p","tid":1,"ts":1002000000}
-"""
+PAUSED_AGAIN_DRAWN = counter(0, 1) + mark("paused", 0, 1)
 OPEN = [start(1000, 1, 4), script(1000, 0, 2), start(1000, 3, 1), sub_run(1000), run(1000)]
 CONTINUED = {"kind": "run-continued", "setup-scripts-running": 7, "running": 6}
 
 # Outside a pause, as the first event.
-CONTINUED_DRAWN = """\
-{"args":{"running_scripts":7,"running_tests":6},"cat":"run","name":"concurrency","ph":"C","pid":0,
-    "tid":0,"ts":1002000000}
-{"args":{"name":"nextest run"},"cat":"","name":"process_name","ph":"M","pid":0,"tid":0,"ts":0}
-{"args":{"sort_index":0},"cat":"","name":"process_sort_index","ph":"M","pid":0,"tid":0,"ts":0}
-{"args":{"name":"run"},"cat":"","name":"thread_name","ph":"M","pid":0,"tid":1,"ts":0}
-{"args":{"sort_index":1},"cat":"","name":"thread_sort_index","ph":"M","pid":0,"tid":1,"ts":0}
-{"args":{"running":6,"setup_scripts_running":7},"cat":"run","name":"continued","ph":"i","pid":0,
-    "s":"p","tid":1,"ts":1002000000}
-"""
+CONTINUED_DRAWN = counter(7, 6) + RUN_NAMED + mark("continued", 7, 6)
 
 # All that is open begins after the mark.
-CONTINUED_WHILE_OPEN_DRAWN = """\
-{"args":{"running_scripts":7,"running_tests":6},"cat":"run","name":"concurrency","ph":"C","pid":0,
-    "tid":0,"ts":1002000000}
-{"args":{"running":6,"setup_scripts_running":7},"cat":"run","name":"continued","ph":"i","pid":0,
-    "s":"p","tid":1,"ts":1002000000}
+CONTINUED_WHILE_OPEN_DRAWN = (
+    counter(7, 6)
+    + mark("continued", 7, 6)
+    + """\
 {"cat":"run","name":"test run","ph":"B","pid":0,"tid":1,"ts":1002000000}
 {"cat":"stress","name":"sub-run","ph":"B","pid":0,"tid":2,"ts":1002000000}
 {"cat":"test","name":"t3","ph":"B","pid":3,"tid":10001,"ts":1002000000}
 {"cat":"test","name":"t1","ph":"B","pid":2,"tid":10004,"ts":1002000000}
 {"cat":"setup-script","name":"db2","ph":"B","pid":1,"tid":10000,"ts":1002000000}
 """
+)
 OPEN_IN_A_PAUSE = [
     start(1000, 1, 4),
     pause(1001, 0),

@@ -28,12 +28,19 @@ from workshop.cases.histories import (
     sub_run,
     sub_run_end,
 )
-from workshop.cases.outlines import GROUPINGS, outline, outlined, printed
+from workshop.cases.outlines import (
+    FIRST_TEST_NAMED,
+    GROUPINGS,
+    RUN_BEGUN,
+    outline,
+    outlined,
+    printed,
+)
 
-# What a row of begins and ends is called under each grouping; a mark is a phase, a row and a
-# second.
+# What a row of begins and ends is called under each grouping; and phases, the rows of which each
+# has them one after the other, and the second.
 Row: TypeAlias = dict[str, str]
-Mark: TypeAlias = tuple[str, Row, int]
+Marks: TypeAlias = tuple[str, list[Row], int]
 
 RUN = {"binary": "run:test run 0/1", "slot": "run:test run 0/1"}
 SUB_RUN = {"binary": "stress:sub-run 0/2", "slot": "stress:sub-run 0/2"}
@@ -64,14 +71,14 @@ PAUSED_TESTS = [
     (
         "a test over a pause",
         [start(1001, 1, 0), pause(1002, 0), go_on(1005, 0), end(1007, 1, 0)],
-        [("B", T1, 1001), ("E", T1, 1002), ("B", T1, 1005), ("E", T1, 1007)],
+        [("B", [T1], 1001), ("E", [T1], 1002), ("B", [T1], 1005), ("E", [T1], 1007)],
     ),
     (
         "an end in a pause",
         [start(1001, 1, 0), pause(1002, 0), end(1003, 1, 0)],
-        [("B", T1, 1001), ("E", T1, 1002), ("B", T1, 1003), ("E", T1, 1003)],
+        [("B", [T1], 1001), ("E", [T1], 1002), ("BE", [T1], 1003)],
     ),
-    ("a start in a pause", [pause(1000, 0), start(1001, 1, 0)], [("B", T1, 1001), ("E", T1, 1001)]),
+    ("a start in a pause", [pause(1000, 0), start(1001, 1, 0)], [("BE", [T1], 1001)]),
     (
         "repeated pauses",
         [
@@ -82,24 +89,17 @@ PAUSED_TESTS = [
             go_on(1004, 0),
             end(1005, 1, 0),
         ],
-        [("B", T1, 1000), ("E", T1, 1001), ("B", T1, 1003), ("E", T1, 1005)],
+        [("B", [T1], 1000), ("E", [T1], 1001), ("B", [T1], 1003), ("E", [T1], 1005)],
     ),
     (
         "the end of the run in a pause",
         [run(1000), pause(1001, 0), run_end(1002), run_end(1003), start(1004, 1, 0)],
-        [
-            ("B", RUN, 1000),
-            ("E", RUN, 1001),
-            ("B", RUN, 1002),
-            ("E", RUN, 1002),
-            ("B", T1, 1004),
-            ("E", T1, 1004),
-        ],
+        [("B", [RUN], 1000), ("E", [RUN], 1001), ("BE", [RUN], 1002), ("BE", [T1], 1004)],
     ),
     (
         "instants that fall",
         [start(1001, 1, 0), pause(1005, 0), go_on(1003, 0), end(1004, 1, 0)],
-        [("B", T1, 1001), ("E", T1, 1005), ("B", T1, 1003), ("E", T1, 1004)],
+        [("B", [T1], 1001), ("E", [T1], 1005), ("B", [T1], 1003), ("E", [T1], 1004)],
     ),
     (
         "what is not drawn",
@@ -111,7 +111,7 @@ PAUSED_TESTS = [
             go_on(1005, 0),
             run_end(1006),
         ],
-        [("B", T1, 1001)],
+        [("B", [T1], 1001)],
     ),
 ]
 
@@ -129,13 +129,13 @@ ATTEMPTS = [
             fail(1006, 2),
         ],
         [
-            ("B", T1, 1000),
-            ("E", T1, 1001),
-            ("B", T1_ON_3, 1002),
-            ("B", T2, 1003),
-            ("E", T2, 1004),
-            ("B", T2, 1005),
-            ("E", T2, 1006),
+            ("B", [T1], 1000),
+            ("E", [T1], 1001),
+            ("B", [T1_ON_3], 1002),
+            ("B", [T2], 1003),
+            ("E", [T2], 1004),
+            ("B", [T2], 1005),
+            ("E", [T2], 1006),
         ],
     ),
     (
@@ -149,25 +149,26 @@ ATTEMPTS = [
             go_on(1005, 0),
         ],
         [
-            ("B", T1, 1000),
-            ("E", T1, 1001),
-            ("B", T1, 1002),
-            ("E", T1, 1002),
-            ("B", T1_ON_1, 1003),
-            ("E", T1_ON_1, 1003),
-            ("B", T1_ON_1, 1004),
-            ("E", T1_ON_1, 1004),
+            ("B", [T1], 1000),
+            ("E", [T1], 1001),
+            ("BE", [T1], 1002),
+            ("BE", [T1_ON_1], 1003),
+            ("BE", [T1_ON_1], 1004),
         ],
     ),
-    ("the last slot with a row", [start(1000, 1, 18446744073709541615)], [("B", T1_ON_LAST, 1000)]),
+    (
+        "the last slot with a row",
+        [start(1000, 1, 18446744073709541615)],
+        [("B", [T1_ON_LAST], 1000)],
+    ),
     (
         "a binary has its number by its first attempt, whatever started it",
         [retry(1000, 3, 0), start(1001, 1, 1), end(1002, 3, 0), start(1003, 4, 0)],
         [
-            ("B", of_test(3, 2, 10000), 1000),
-            ("B", of_test(1, 3, 10001), 1001),
-            ("E", of_test(3, 2, 10000), 1002),
-            ("B", of_test(4, 2, 10000), 1003),
+            ("B", [of_test(3, 2, 10000)], 1000),
+            ("B", [of_test(1, 3, 10001)], 1001),
+            ("E", [of_test(3, 2, 10000)], 1002),
+            ("B", [of_test(4, 2, 10000)], 1003),
         ],
     ),
 ]
@@ -193,29 +194,19 @@ OTHER_SPANS = [
             run_end(1013),
         ],
         [
-            ("B", SECOND, 1000),
-            ("B", FIRST, 1001),
-            ("B", T1_ON_1, 1002),
-            ("B", T3, 1003),
-            ("B", SUB_RUN, 1004),
-            ("B", RUN, 1005),
-            ("E", RUN, 1006),
-            ("E", SUB_RUN, 1006),
-            ("E", T3, 1006),
-            ("E", T1_ON_1, 1006),
-            ("E", FIRST, 1006),
-            ("E", SECOND, 1006),
-            ("B", RUN, 1007),
-            ("B", SUB_RUN, 1007),
-            ("B", T3, 1007),
-            ("B", T1_ON_1, 1007),
-            ("B", FIRST, 1007),
-            ("B", SECOND, 1007),
-            ("E", SECOND, 1008),
-            ("E", T1_ON_1, 1010),
-            ("E", T3, 1011),
-            ("E", SUB_RUN, 1012),
-            ("E", RUN, 1013),
+            ("B", [SECOND], 1000),
+            ("B", [FIRST], 1001),
+            ("B", [T1_ON_1], 1002),
+            ("B", [T3], 1003),
+            ("B", [SUB_RUN], 1004),
+            ("B", [RUN], 1005),
+            ("E", [RUN, SUB_RUN, T3, T1_ON_1, FIRST, SECOND], 1006),
+            ("B", [RUN, SUB_RUN, T3, T1_ON_1, FIRST, SECOND], 1007),
+            ("E", [SECOND], 1008),
+            ("E", [T1_ON_1], 1010),
+            ("E", [T3], 1011),
+            ("E", [SUB_RUN], 1012),
+            ("E", [RUN], 1013),
         ],
     ),
     (
@@ -233,22 +224,14 @@ OTHER_SPANS = [
             go_on(1009, 0),
         ],
         [
-            ("B", RUN, 1001),
-            ("E", RUN, 1001),
-            ("B", SUB_RUN, 1002),
-            ("E", SUB_RUN, 1002),
-            ("B", FIRST, 1003),
-            ("E", FIRST, 1003),
-            ("B", T1, 1004),
-            ("E", T1, 1004),
-            ("B", FIRST, 1005),
-            ("E", FIRST, 1005),
-            ("B", T1, 1006),
-            ("E", T1, 1006),
-            ("B", SUB_RUN, 1007),
-            ("E", SUB_RUN, 1007),
-            ("B", RUN, 1008),
-            ("E", RUN, 1008),
+            ("BE", [RUN], 1001),
+            ("BE", [SUB_RUN], 1002),
+            ("BE", [FIRST], 1003),
+            ("BE", [T1], 1004),
+            ("BE", [FIRST], 1005),
+            ("BE", [T1], 1006),
+            ("BE", [SUB_RUN], 1007),
+            ("BE", [RUN], 1008),
         ],
     ),
     (
@@ -260,16 +243,16 @@ OTHER_SPANS = [
             script(1003, 18446744073709541615, 1),
         ],
         [
-            ("B", FIRST, 1000),
-            ("E", FIRST, 1001),
-            ("B", of_script(0, 2), 1002),
-            ("B", of_script(18446744073709541615, 1), 1003),
+            ("B", [FIRST], 1000),
+            ("E", [FIRST], 1001),
+            ("B", [of_script(0, 2)], 1002),
+            ("B", [of_script(18446744073709541615, 1)], 1003),
         ],
     ),
     (
         "the most setup scripts that are counted",
         [cancel(1000, 18446744073709551614), script(1001, 0, 1)],
-        [("B", FIRST, 1001)],
+        [("B", [FIRST], 1001)],
     ),
 ]
 
@@ -288,16 +271,10 @@ ALL_SPANS = [
     start(1010, 3, 0),
     run_end(1011),
 ]
-ALL_DRAWN = """\
-M :process_name 0/0 0 {"name":"nextest run (default)"}
-M :process_sort_index 0/0 0 {"sort_index":0}
-M :thread_name 0/1 0 {"name":"run"}
-M :thread_sort_index 0/1 0 {"sort_index":1}
-B run:test run 0/1 1000000000
-M :process_name 2/0 0 {"name":"alpha::a"}
-M :process_sort_index 2/0 0 {"sort_index":2}
-M :thread_name 2/10000 0 {"name":"slot-0"}
-M :thread_sort_index 2/10000 0 {"sort_index":10000}
+ALL_DRAWN = (
+    RUN_BEGUN
+    + FIRST_TEST_NAMED
+    + """\
 B test:t1 2/10000 1001000000
 C run:concurrency 0/0 1001000000 {"running_scripts":0,"running_tests":1}
 M :process_name 1/0 0 {"name":"setup-scripts"}
@@ -329,13 +306,18 @@ B test:t3 3/10000 1010000000
 C run:concurrency 0/0 1010000000 {"running_scripts":0,"running_tests":2}
 E run:test run 0/1 1011000000
 """
+)
 
 
-def marks(group_by: str, drawn: Sequence[Mark]) -> Holds:
+def marks(group_by: str, drawn: Sequence[Marks]) -> Holds:
     """The outline of these begins and ends."""
-    return outline(
-        "BE", "".join(f"{phase} {of[group_by]} {secs}000000\n" for phase, of, secs in drawn)
-    )
+    lines = [
+        f"{phase} {row[group_by]} {secs}000000\n"
+        for phases, rows, secs in drawn
+        for row in rows
+        for phase in phases
+    ]
+    return outline("BE", "".join(lines))
 
 
 CASES = [

@@ -4,9 +4,36 @@ test is slow or skipped.
 
 from __future__ import annotations
 
-from workshop.cases.events import sorted_stats
-from workshop.cases.histories import end, event, fail, pause, retry, script, skip, slow, start
+from workshop.cases.events import (
+    NOT_STARTED,
+    captured,
+    course,
+    sorted_stats,
+    status,
+    test_finished,
+)
+from workshop.cases.histories import (
+    end,
+    event,
+    fail,
+    numbered,
+    pause,
+    retry,
+    script,
+    skip,
+    slow,
+    start,
+)
+from workshop.cases.made import Members, duration, instant
 from workshop.cases.outlines import drawn, outlined
+
+NO_OUTPUT = captured({"split": {}})
+
+
+def error_summary(short: str, long: str) -> Members:
+    """What an attempt says of its error."""
+    return {"error-summary": {"short-message": short, "description": long}}
+
 
 START_WITH_ALL = {
     "kind": "test-started",
@@ -208,40 +235,16 @@ FAIL_WITH_LEAST_DRAWN = """\
 FAILED_AND_PAUSED = [start(1000, 1, 0), fail(1000, 1), start(1000, 3, 5), pause(1001, 0)]
 
 # The second attempt passed, and a flaky test is to fail.
-FINISH_WITH_ALL = {
-    "kind": "test-finished",
-    "stress-index": {"current": 3, "total": 5},
-    "test-instance": {"binary-id": "alpha::a", "test-name": "t1"},
-    "success-output": "never",
-    "failure-output": "immediate",
-    "junit-store-success-output": False,
-    "junit-store-failure-output": True,
-    "junit-flaky-fail-status": "failure",
-    "run-statuses": {
-        "statuses": [
-            {
-                "retry-data": {"attempt": 1, "total-attempts": 3},
-                "output": {"start-error": "none"},
-                "result": "exec-fail",
-                "start-time": {"secs": 1001, "nanos": 0, "offset": 0},
-                "time-taken": {"secs": 9, "nanos": 9},
-                "is-slow": False,
-                "delay-before-start": {"secs": 0, "nanos": 0},
-                "error-summary": {"short-message": "first", "description": "of the first"},
-            },
-            {
-                "retry-data": {"attempt": 2, "total-attempts": 3},
-                "output": {"output": {"output": {"split": {}}}},
-                "result": {"leak": "pass"},
-                "start-time": {"secs": 1001, "nanos": 0, "offset": 0},
-                "time-taken": {"secs": 2, "nanos": 5},
-                "is-slow": True,
-                "delay-before-start": {"secs": 1, "nanos": 0},
-            },
-        ],
-        "flaky-result": "fail",
+FINISH_WITH_ALL = test_finished(
+    {
+        **status(1, 3, course(NOT_STARTED, "exec-fail", instant(1001), duration(9, 9))),
+        **error_summary("first", "of the first"),
     },
-    "current-stats": sorted_stats(
+    status(
+        2, 3, course(NO_OUTPUT, {"leak": "pass"}, instant(1001), duration(2, 5), True), duration(1)
+    ),
+    of=numbered(1),
+    counts=sorted_stats(
         exec_failed=3,
         failed=2,
         failed_slow=1,
@@ -257,8 +260,12 @@ FINISH_WITH_ALL = {
         setup_scripts_failed=50,
         skipped=60,
     ),
-    "running": 8,
-}
+    stores=(False, True),
+    flaky=("failure", "fail"),
+    index={"current": 3, "total": 5},
+    shown="immediate",
+    running=8,
+)
 
 FINISH_WITH_ALL_DRAWN = """\
 {"args":{"attempt":2,"binary_id":"alpha::a","delay_before_start":{"nanos":0,"secs":1},
@@ -276,41 +283,18 @@ FINISH_WITH_ALL_DRAWN = """\
 """
 
 # The last of two attempts was too slow, so that a flaky result doesn't count.
-FINISH_WITH_ERROR = {
-    "kind": "test-finished",
-    "test-instance": {"binary-id": "alpha::a", "test-name": "t1"},
-    "success-output": "never",
-    "failure-output": "immediate",
-    "junit-store-success-output": False,
-    "junit-store-failure-output": True,
-    "junit-flaky-fail-status": "failure",
-    "run-statuses": {
-        "statuses": [
-            {
-                "retry-data": {"attempt": 1, "total-attempts": 2},
-                "output": {"start-error": "none"},
-                "result": "pass",
-                "start-time": {"secs": 1001, "nanos": 0, "offset": 0},
-                "time-taken": {"secs": 9, "nanos": 9},
-                "is-slow": False,
-                "delay-before-start": {"secs": 0, "nanos": 0},
-            },
-            {
-                "retry-data": {"attempt": 2, "total-attempts": 2},
-                "output": {"output": {"output": {"split": {}}}},
-                "result": {"timeout": "fail"},
-                "start-time": {"secs": 1001, "nanos": 0, "offset": 0},
-                "time-taken": {"secs": 2, "nanos": 0},
-                "is-slow": False,
-                "delay-before-start": {"secs": 0, "nanos": 0},
-                "error-summary": {"short-message": "timed out", "description": ""},
-            },
-        ],
-        "flaky-result": "fail",
+FINISH_WITH_ERROR = test_finished(
+    status(1, 2, course(NOT_STARTED, "pass", instant(1001), duration(9, 9))),
+    {
+        **status(2, 2, course(NO_OUTPUT, {"timeout": "fail"}, instant(1001), duration(2))),
+        **error_summary("timed out", ""),
     },
-    "current-stats": sorted_stats(failed_timed_out=1),
-    "running": 0,
-}
+    of=numbered(1),
+    counts=sorted_stats(failed_timed_out=1),
+    stores=(False, True),
+    flaky=("failure", "fail"),
+    shown="immediate",
+)
 
 FINISH_WITH_ERROR_DRAWN = """\
 {"args":{"attempt":2,"binary_id":"alpha::a","error":{"description":"","short_message":"timed out"},

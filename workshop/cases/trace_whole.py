@@ -21,8 +21,9 @@ from workshop.cases.histories import (
     start,
     sub_run,
     sub_run_end,
+    two_slots,
 )
-from workshop.cases.outlines import GROUPINGS, outlined, printed
+from workshop.cases.outlines import FIRST_TEST_NAMED, GROUPINGS, RUN_BEGUN, outlined, printed
 from workshop.cases.texts import (
     EMPTY_TRACE,
     EMPTY_TRACE_IN_LINES,
@@ -38,33 +39,10 @@ from workshop.cases.texts import (
 )
 
 # Two binaries with two tests each, a retry and a pause.
-ROW_ONE = [
-    run(1000),
-    start(1000, 1, 0),
-    start(1001, 2, 1),
-    end(1002, 1, 0),
-    start(1002, 3, 0),
-    pause(1003, 0),
-    go_on(1006, 0),
-    fail(1007, 2),
-    retry(1008, 2, 1),
-    end(1009, 3, 0),
-    end(1010, 2, 0),
-    start(1010, 4, 1),
-    end(1011, 4, 0),
-    run_end(1011),
-]
-
-ROW_ONE_DRAWN = """\
-M :process_name 0/0 0 {"name":"nextest run (default)"}
-M :process_sort_index 0/0 0 {"sort_index":0}
-M :thread_name 0/1 0 {"name":"run"}
-M :thread_sort_index 0/1 0 {"sort_index":1}
-B run:test run 0/1 1000000000
-M :process_name 2/0 0 {"name":"alpha::a"}
-M :process_sort_index 2/0 0 {"sort_index":2}
-M :thread_name 2/10000 0 {"name":"slot-0"}
-M :thread_sort_index 2/10000 0 {"sort_index":10000}
+TWO_SLOTS_DRAWN = (
+    RUN_BEGUN
+    + FIRST_TEST_NAMED
+    + """\
 B test:t1 2/10000 1000000000
 C run:concurrency 0/0 1000000000 {"running_scripts":0,"running_tests":1}
 M :thread_name 2/10001 0 {"name":"slot-1"}
@@ -111,16 +89,15 @@ C run:concurrency 0/0 1011000000 {"running_scripts":0,"running_tests":0}
 C run:test results 0/0 1011000000 {"failed":1,"flaky":0,"passed":0}
 E run:test run 0/1 1011000000
 """
+)
 
 NO_TESTS = [run(1000), run_end(1001)]
-NO_TESTS_DRAWN = """\
-M :process_name 0/0 0 {"name":"nextest run (default)"}
-M :process_sort_index 0/0 0 {"sort_index":0}
-M :thread_name 0/1 0 {"name":"run"}
-M :thread_sort_index 0/1 0 {"sort_index":1}
-B run:test run 0/1 1000000000
+NO_TESTS_DRAWN = (
+    RUN_BEGUN
+    + """\
 E run:test run 0/1 1001000000
 """
+)
 
 # A failed attempt, a pause, a continuation and a retry at one instant: nothing is open in the
 # pause.
@@ -163,19 +140,15 @@ TWO_SUB_RUNS = [
     sub_run_end(1008),
     run_end(1009),
 ]
-TWO_SUB_RUNS_DRAWN = """\
-M :process_name 0/0 0 {"name":"nextest run (default)"}
-M :process_sort_index 0/0 0 {"sort_index":0}
-M :thread_name 0/1 0 {"name":"run"}
-M :thread_sort_index 0/1 0 {"sort_index":1}
-B run:test run 0/1 1000000000
+TWO_SUB_RUNS_DRAWN = (
+    RUN_BEGUN
+    + """\
 M :thread_name 0/2 0 {"name":"stress sub-runs"}
 M :thread_sort_index 0/2 0 {"sort_index":2}
 B stress:sub-run 0/2 1001000000
-M :process_name 2/0 0 {"name":"alpha::a"}
-M :process_sort_index 2/0 0 {"sort_index":2}
-M :thread_name 2/10000 0 {"name":"slot-0"}
-M :thread_sort_index 2/10000 0 {"sort_index":10000}
+"""
+    + FIRST_TEST_NAMED
+    + """\
 B test:t1 2/10000 1002000000
 C run:concurrency 0/0 1002000000 {"running_scripts":0,"running_tests":1}
 E test:t1 2/10000 1003000000
@@ -191,6 +164,7 @@ C run:test results 0/0 1007000000 {"failed":1,"flaky":0,"passed":0}
 E stress:sub-run 0/2 1008000000
 E run:test run 0/1 1009000000
 """
+)
 
 # A pause as the first event.
 PAUSED = {"kind": "run-paused", "setup-scripts-running": 0, "running": 1}
@@ -375,7 +349,7 @@ def over_lines(name: str, lines: Sequence[Line], out: Wanted) -> list[Case]:
 
 
 CASES = [
-    *outlined("the first row", "MBECisf", ROW_ONE, ROW_ONE_DRAWN),
+    *outlined("the first row", "MBECisf", two_slots(), TWO_SLOTS_DRAWN),
     *outlined("a run without tests", "MBECisf", NO_TESTS, NO_TESTS_DRAWN),
     *outlined(
         "a retry at the instant of its failure", "BECisf", RETRIED_AT_ONCE, RETRIED_AT_ONCE_DRAWN

@@ -12,16 +12,10 @@ from workshop.cases.histories import (
     RUNNING,
     Line,
     counts_of,
-    end,
-    go_on,
     numbered,
     of_number,
-    pause,
-    retry,
-    run,
-    run_end,
-    start,
     traced_log,
+    two_slots,
 )
 from workshop.cases.made import Members, bundle, compact, duration, instant
 from workshop.cases.texts import LOGGED_PAUSE, MANIFEST, METADATA, NO_SIZES, replaced
@@ -107,20 +101,5 @@ def failed(secs: int, number: int, output: Entry) -> Line:
     )
 
 
-TWO_SLOTS = [
-    run(1000),
-    start(1000, 1, 0),
-    start(1001, 2, 1),
-    passed(1002, 1, FIRST),
-    start(1002, 3, 0),
-    pause(1003, 0),
-    go_on(1006, 0),
-    failed(1007, 2, SECOND),
-    retry(1008, 2, 1),
-    end(1009, 3, 0),
-    end(1010, 2, 0),
-    start(1010, 4, 1),
-    end(1011, 4, 0),
-    run_end(1011),
-]
+TWO_SLOTS = two_slots(passed(1002, 1, FIRST), failed(1007, 2, SECOND))
 TWO_SLOTS_LOG = traced_log(TWO_SLOTS)

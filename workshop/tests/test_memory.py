@@ -48,7 +48,8 @@ def most_held(program: Path, words: str, source: Path) -> int:
         _, status, usage = os.wait4(done.pid, 0)
     done.returncode = os.waitstatus_to_exitcode(status)
     assert done.returncode == 0, words
-    return usage.ru_maxrss * 1024
+    kilobytes: int = usage.ru_maxrss
+    return kilobytes * 1024
 
 
 @pytest.mark.program
