@@ -24,7 +24,6 @@ from workshop.check_width import prose_lines
 LONGEST_SENTENCE = 25
 # How many long sentences and how many obscure words a page may have.
 KEPT: Mapping[str, tuple[int, int]] = {
-    "README.md": (7, 4),
     "docs/ARCHITECTURE.md": (43, 32),
     "docs/CLI.md": (83, 55),
     "docs/CONTRIBUTING.md": (33, 12),
