@@ -305,9 +305,9 @@ class Checker:
         What it proves it keeps in a folder.
         """
         with tempfile.TemporaryDirectory(prefix="edit-") as room:
-            for part in PARTS:
-                if (self.clone.crates / crate / part).is_dir():
-                    shutil.copytree(self.clone.crates / crate / part, Path(room, part))
+            folder = self.clone.crates / crate
+            for part in (part for part in PARTS if (folder / part).is_dir()):
+                shutil.copytree(folder / part, Path(room, part))
             for path, text in each.texts.items():
                 Path(room, path).write_text(text)
             functions = dict.fromkeys(

@@ -244,14 +244,18 @@ def sweep(tool: Sweep, kept: Kept, target: Target, first: int, last: int) -> Non
     so far.
     """
     whole_run = tool.whole(target.words, target.source)
-    for kind in KINDS:
-        for number in range(first, min(last, whole_run.calls[kind]) + 1):
-            if (target.name, kind, number) not in kept.calls:
-                run = tool.run(target.words, target.source, (kind, number))
-                less = JUDGES[kind](target, run.left, whole_run.left, number)
-                kept.add(target.name, kind, number, less)
-    (memory, smaller), (reads, _), (writes, _) = (kept.counts(target.name, kind) for kind in KINDS)
     calls = whole_run.calls
+    numbered = [
+        (kind, number)
+        for kind in KINDS
+        for number in range(first, min(last, calls[kind]) + 1)
+        if (target.name, kind, number) not in kept.calls
+    ]
+    for kind, number in numbered:
+        run = tool.run(target.words, target.source, (kind, number))
+        less = JUDGES[kind](target, run.left, whole_run.left, number)
+        kept.add(target.name, kind, number, less)
+    (memory, smaller), (reads, _), (writes, _) = (kept.counts(target.name, kind) for kind in KINDS)
     print(
         f"{target.name}: {memory} of {calls['allocation']} allocations ({smaller} done with less), "
         f"{reads} of {calls['read']} reads and {writes} of {calls['write']} writes "

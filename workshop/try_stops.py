@@ -122,12 +122,17 @@ def outputs_of(value: object) -> Iterator[Output]:
             yield from outputs_of(item)
     elif isinstance(value, dict):
         for name, item in value.items():
-            if name in ("stdout", "stderr", "combined") and isinstance(item, str) and item:
-                content = bytes.fromhex(item)
-                number = hashlib.sha256(content).digest()[:8].hex()
-                yield f"out/{number}-{name}".encode(), content
-            else:
-                yield from outputs_of(item)
+            yield from outputs_of_member(name, item)
+
+
+def outputs_of_member(name: str, value: object) -> Iterator[Output]:
+    """The output that a member of an event is, or the outputs in it."""
+    if name in ("stdout", "stderr", "combined") and isinstance(value, str) and value:
+        content = bytes.fromhex(value)
+        number = hashlib.sha256(content).digest()[:8].hex()
+        yield f"out/{number}-{name}".encode(), content
+    else:
+        yield from outputs_of(value)
 
 
 @dataclasses.dataclass(frozen=True)
