@@ -10,7 +10,7 @@ import json
 from collections.abc import Iterable, Mapping
 
 from rezovamy_runs.bundles.container import container
-from rezovamy_runs.json_values import JsonObject, object_of, text_of
+from rezovamy_runs.json_values import JsonObject, members_of, text_of
 from rezovamy_runs.streams.session_json import stats
 
 START = 1000
@@ -269,7 +269,7 @@ def stored(value: object, store: dict[str, bytes]) -> object:
     if not isinstance(value, dict):
         return value
     if "split" in value or "combined" in value:
-        outputs = object_of(value.get("split", value))
+        outputs = members_of(value.get("split", value)).values
         names = {
             stream: name_of(bytes.fromhex(text_of(digits)), stream, store)
             for stream, digits in outputs.items()
