@@ -10,6 +10,7 @@ import subprocess
 import sys
 import time
 from collections.abc import Callable
+from typing import IO
 
 from tests import FRONT, made
 
@@ -32,14 +33,27 @@ class FrontEnd:
         """Return the words of a process."""
         return [sys.executable, str(FRONT / "rezovamy-runs"), *words]
 
-    def run(self, *words: str, folder: str = ".") -> subprocess.CompletedProcess[str]:
-        """Run a command to its end."""
+    def run(
+        self,
+        *words: str,
+        folder: str = ".",
+        given: str | None = None,
+        stdout: int | IO[bytes] = subprocess.PIPE,
+        errors: str = "strict",
+        before: Callable[[], object] | None = None,
+    ) -> subprocess.CompletedProcess[str]:
+        """Run a command to its end; it may be given an input, and something is done before it."""
         done = subprocess.run(
             self.words(*words),
             cwd=self.folder / folder,
             env=self.environment,
-            capture_output=True,
+            input=given,
+            stdout=stdout,
+            stderr=subprocess.PIPE,
             text=True,
+            errors=errors,
+            preexec_fn=before,
+            timeout=LONGEST_WAIT,
             check=False,
         )
         assert "Traceback" not in done.stderr, done.stderr
@@ -50,6 +64,24 @@ class FrontEnd:
         done = self.run(*words)
         assert (done.returncode, done.stderr) == (0, "")
         return done.stdout
+
+    def run_without_reader(self, *words: str) -> subprocess.CompletedProcess[str]:
+        """Run a command whose standard output nobody reads any more."""
+        reading, writing = os.pipe()
+        os.close(reading)
+        with os.fdopen(writing, "wb") as stdout:
+            return self.run(*words, stdout=stdout)
+
+    def use_program(self, lines: str) -> None:
+        """Let these lines of a shell stand in place of the program."""
+        path = self.folder / "program"
+        path.write_text(f"#!/bin/sh\n{lines}\n")
+        path.chmod(0o755)
+        self.environment["REZOVAMY"] = str(path)
+
+    def path_of(self, run_id: str) -> pathlib.Path:
+        """Return the path of a run's bundle."""
+        return self.runs / f"{run_id}.bundle"
 
     def interrupt(self, *words: str, once: Callable[[], bool]) -> subprocess.CompletedProcess[str]:
         """Run a command, which is broken off as by a key once something is so."""
@@ -87,7 +119,7 @@ class FrontEnd:
     def add_bundle(self, run_id: str, data: bytes) -> None:
         """Add a bundle."""
         self.runs.mkdir(exist_ok=True)
-        (self.runs / f"{run_id}.bundle").write_bytes(data)
+        self.path_of(run_id).write_bytes(data)
 
 
 def hear_interrupts() -> None:

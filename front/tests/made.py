@@ -10,7 +10,7 @@ import json
 from collections.abc import Iterable, Mapping
 
 from rezovamy_runs.bundles.container import container
-from rezovamy_runs.json_values import JsonObject, object_of, text_of
+from rezovamy_runs.json_values import JsonObject, members_of, text_of
 from rezovamy_runs.streams.session_json import stats
 
 START = 1000
@@ -47,8 +47,12 @@ def instant(seconds: float) -> JsonObject:
 
 def event(kind: str, seconds: float, **members: object) -> JsonObject:
     """An event so many seconds after the start. Members are named with `_` for `-`."""
-    named = {name.replace("_", "-"): value for name, value in members.items()}
-    return {"timestamp": instant(seconds), "elapsed": span(seconds), "kind": kind, **named}
+    return {"timestamp": instant(seconds), "elapsed": span(seconds), "kind": kind, **named(members)}
+
+
+def named(members: Mapping[str, object]) -> JsonObject:
+    """Members whose names have `-` in place of `_`, as Python takes no other names."""
+    return {name.replace("_", "-"): value for name, value in members.items()}
 
 
 def test_of(name: str) -> JsonObject:
@@ -233,7 +237,7 @@ def bundle(
 ) -> bytes:
     """A bundle of these events as they are logged, with outputs by their files' names.
 
-    Its run may have further members.
+    Its run may have further members, which are named with `_` for `-`.
     """
     run: JsonObject = {
         "run-id": run_id,
@@ -242,7 +246,7 @@ def bundle(
         "last-written-at": instant(at),
         "status": ended or {"status": "incomplete"},
         "sizes": {},
-        **more,
+        **named(more),
     }
     return container_of(run, events, outputs, version, store)
 
@@ -265,12 +269,12 @@ def stored(value: object, store: dict[str, bytes]) -> object:
     if not isinstance(value, dict):
         return value
     if "split" in value or "combined" in value:
-        outputs = object_of(value.get("split", value))
-        named = {
+        outputs = members_of(value.get("split", value)).values
+        names = {
             stream: name_of(bytes.fromhex(text_of(digits)), stream, store)
             for stream, digits in outputs.items()
         }
-        return {"split": named} if "split" in value else named
+        return {"split": names} if "split" in value else names
     return {key: stored(item, store) for key, item in value.items()}
 
 

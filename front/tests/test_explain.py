@@ -1,350 +1,443 @@
 """What is said of fault lines, of typed calls and of the built program's own."""
 
-import os
+from __future__ import annotations
+
+import dataclasses
 import pathlib
+import re
 import subprocess
-import tempfile
-import unittest
 
-from rezovamy_runs.bundles.container import MAGIC, container, entries
-from rezovamy_runs.faults import causes
-from rezovamy_runs.faults import file_kinds
+import pytest
+
 from rezovamy_runs import recorder
+from rezovamy_runs.bundles.container import MAGIC, container, entries
+from rezovamy_runs.faults import causes, file_kinds
 from rezovamy_runs.faults.explain import TABLE, explain, explain_or_show
-from rezovamy_runs.faults.fault import Fault
-
 from tests import FRONT, TOP
 
-FRONT_END = FRONT / "rezovamy-runs"
-EXAMPLES = TOP / "crates/rezovamy/data"
+SESSION = TOP / "crates/rezovamy/data/one_test.session"
+RAISE_LIMIT = (
+    "run.log.zst has 1915 bytes, and 1914 may be read: the option --read-limit 1915 takes it"
+)
 
 
-def said(line, *words, begins=None):
+def said(line: str, *words: str, begins: bytes | None = None) -> str | None:
+    """Return what is said of the line that a call of the program answered."""
     return explain(line, causes.Call(words, begins))
 
 
-class Lines(unittest.TestCase):
-    def test_values_stand_in_the_sentence(self):
-        self.assertEqual(
-            explain("FileTooLarge file_name=run.log.zst size=1915 limit=1914"),
-            "run.log.zst has 1915 bytes, and 1914 may be read: the option --read-limit 1915 takes it",
-        )
-        self.assertEqual(
-            explain("SpanAlreadyOpen event=2 span=Test binary_id=alpha::a test_name=my t1"),
+# Lines alone.
+
+
+@pytest.mark.parametrize(
+    ("line", "sentence"),
+    [
+        pytest.param(
+            "FileTooLarge file_name=run.log.zst size=1915 limit=1914", RAISE_LIMIT, id="numbers"
+        ),
+        pytest.param(
+            "SpanAlreadyOpen event=2 span=Test binary_id=alpha::a test_name=my t1",
             "event 2 starts the test alpha::a my t1, which runs already:"
             " the events contradict each other, so ask the tool that wrote them",
-        )
-
-    def test_two_forms_of_one_name_are_told_apart(self):
-        self.assertEqual(
-            explain("CountOutOfRange event=None"),
+            id="names",
+        ),
+        pytest.param(
+            "CountOutOfRange event=None",
             "all sizes together are past 64 bits: record less at once",
-        )
-        self.assertTrue(
-            explain("CountOutOfRange event=3").startswith("event 3 counts more than 64 bits: ")
-        )
-
-    def test_a_name_with_a_line_break_is_one_line(self):
-        line = "TestNotFound binary_id=a test_name=b\nc\n"
-        self.assertTrue(
-            explain(line).startswith(
-                "the test a b\\x0ac ran, and the test list of the head lacks it"
-            )
-        )
-
-    def test_no_line_of_the_program(self):
-        self.assertIsNone(explain("SessionTooLarge"))
-        self.assertIsNone(explain("SessionTooLarge limit=many"))
-        self.assertEqual(
-            explain_or_show("Odd\x1b[1m at=1\n"),
-            "rezovamy says `Odd\\x1b[1m at=1`, which docs/CLI.md of its version explains",
-        )
-
-    def test_each_form_has_its_own_sentence(self):
-        for form, sentence in TABLE:
-            line = form.replace("{file_name}", "out/a-stdout")
-            for name in ("found", "supported", "last"):
-                line = line.replace(f"{{{name}}}", "1.2")
-            for name in ("binary_id", "test_name", "script_id"):
-                line = line.replace(f"{{{name}}}", "x")
-            for part in line.split("{")[1:]:
-                line = line.replace("{" + part.split("}")[0] + "}", "7")
-            self.assertIn(sentence.split("{")[0], explain(line))
+            id="the one form of a name",
+        ),
+        pytest.param("SessionTooLarge", None, id="a value is missing"),
+        pytest.param("SessionTooLarge limit=many", None, id="a value is no number"),
+    ],
+)
+def test_values_stand_in_the_sentence(line: str, sentence: str | None) -> None:
+    assert explain(line) == sentence
 
 
-class Words(unittest.TestCase):
-    def test_a_file_after_a_command_that_reads(self):
-        self.assertEqual(
-            said("UnknownOption at=1", "info", "my run.bundle"),
+@pytest.mark.parametrize(
+    ("line", "begin"),
+    [
+        pytest.param(
+            "CountOutOfRange event=3",
+            "event 3 counts more than 64 bits: ",
+            id="the other form of a name",
+        ),
+        pytest.param(
+            "TestNotFound binary_id=a test_name=b\nc\n",
+            "the test a b\\x0ac ran, and the test list of the head lacks it",
+            id="a name with a line break is one line",
+        ),
+    ],
+)
+def test_a_sentence_begins_with_the_values(line: str, begin: str) -> None:
+    assert (explain(line) or "").startswith(begin)
+
+
+def test_no_line_of_the_program_is_shown() -> None:
+    assert (
+        explain_or_show("Odd\x1b[1m at=1\n")
+        == "rezovamy says `Odd\\x1b[1m at=1`, which docs/CLI.md of its version explains"
+    )
+
+
+@pytest.mark.parametrize(("form", "sentence"), TABLE)
+def test_each_form_has_its_own_sentence(form: str, sentence: str) -> None:
+    line = form.replace("{file_name}", "out/a-stdout")
+    line = re.sub(r"{(?:found|supported|last)}", "1.2", line)
+    line = re.sub(r"{(?:binary_id|test_name|script_id)}", "x", line)
+    line = re.sub(r"{[^}]*}", "7", line)
+    explained = explain(line)
+    assert explained is not None
+    assert sentence.split("{")[0] in explained
+
+
+# Lines with the words of the call.
+
+
+@pytest.mark.parametrize(
+    ("line", "words", "sentence"),
+    [
+        (
+            "UnknownOption at=1",
+            ["info", "my run.bundle"],
             "`info` reads standard input: rezovamy info < 'my run.bundle'",
-        )
-
-    def test_an_option_that_is_mistyped_or_joined_or_of_another_command(self):
-        self.assertEqual(
-            said("UnknownOption at=2", "record", "b", "--group-buy", "slot"),
+        ),
+        (
+            "UnknownOption at=2",
+            ["record", "b", "--group-buy", "slot"],
             "`record` has no option '--group-buy': --group-by is meant",
-        )
-        self.assertEqual(
-            said("UnknownOption at=1", "trace", "--group-by=slot"),
+        ),
+        (
+            "UnknownOption at=1",
+            ["trace", "--group-by=slot"],
             "an option and its value are two words: --group-by slot",
-        )
-        self.assertEqual(
-            said("UnknownOption at=1", "info", "--max-output", "1"),
+        ),
+        (
+            "UnknownOption at=1",
+            ["info", "--max-output", "1"],
             "`info` doesn't take '--max-output', but --read-limit or --session-limit",
-        )
-
-    def test_commands_and_values(self):
-        self.assertEqual(
-            said("UnknownCommand at=0", "recrod"),
+        ),
+        (
+            "UnknownCommand at=0",
+            ["recrod"],
             "there is no command 'recrod': rezovamy record is meant",
-        )
-        self.assertEqual(
-            said("UnknownCommand at=0", "--help", "record"), "--help stands alone: rezovamy --help"
-        )
-        self.assertEqual(
-            said("BadNumber at=1", "sample", "10001", "b"),
+        ),
+        ("UnknownCommand at=0", ["--help", "record"], "--help stands alone: rezovamy --help"),
+        (
+            "BadNumber at=1",
+            ["sample", "10001", "b"],
             "'10001' is no whole number from 0 to 10000: rezovamy sample 80 BUNDLE",
-        )
-        self.assertEqual(
-            said("MissingValue at=3", "record", "b", "--group-by"),
+        ),
+        (
+            "MissingValue at=3",
+            ["record", "b", "--group-by"],
             "--group-by has no value: it takes binary or slot",
-        )
-        self.assertEqual(
-            said("BadValue at=2", "info", "--read-limit", "1k"),
+        ),
+        (
+            "BadValue at=2",
+            ["info", "--read-limit", "1k"],
             "--read-limit takes a number of bytes, and not '1k'",
-        )
-        self.assertEqual(
-            said("RepeatedOption at=3", "info", "--read-limit", "1", "--read-limit", "2"),
+        ),
+        (
+            "RepeatedOption at=3",
+            ["info", "--read-limit", "1", "--read-limit", "2"],
             "--read-limit stands there twice: leave one out",
-        )
-
-    def test_words_that_do_not_fit_the_line(self):
-        self.assertTrue(
-            said("UnknownOption at=9", "info", "run.bundle").startswith(
-                "word 9 is no option of the command"
-            )
-        )
+        ),
+    ],
+)
+def test_words_that_are_mistyped(line: str, words: list[str], sentence: str) -> None:
+    assert said(line, *words) == sentence
 
 
-class Input(unittest.TestCase):
-    def test_kinds(self):
-        for begins, kind in (
-            (b"", "empty"),
-            (b"nxtcont1\1\0\r", "a bundle"),
-            (b"PK\3\4..", "a zip file"),
-            (b'{"run-id":"1","nextest-version":"0.9.111"}\n', "a session"),
-            (b'{"displayTimeUnit":"ms"', "a trace"),
-            (b'{\n  "displayTimeUnit": "ms"', "a trace"),
-            (b'{ "type": "suite", "event": "started"', "what a test run printed"),
-            (b"   Compiling sums v0.1.0\n", "what a test run printed"),
-            (b"\nrunning 1 test\ntest a ... ok\n", "what a test run printed"),
-            (b"hello", None),
-        ):
-            self.assertEqual(file_kinds.kind_of(begins), kind)
+def test_words_that_do_not_fit_the_line() -> None:
+    sentence = said("UnknownOption at=9", "info", "run.bundle") or ""
+    assert sentence.startswith("word 9 is no option of the command")
 
-    def test_one_file_for_another(self):
-        self.assertEqual(
-            said("ParseHead", "record", "b", begins=b"nxtcont1\1"),
-            "this is a bundle, not a session: it is recorded already, and rezovamy info, trace, replay or report reads it",
-        )
-        self.assertEqual(
-            said("ReadArchive fault=BadMagic", "replay", begins=b'{"nextest-version":"0.9.111"}'),
-            "this is a session, not a bundle: rezovamy record BUNDLE < SESSION makes one, then rezovamy replay < BUNDLE",
-        )
-        self.assertEqual(
-            said("ReadArchive fault=BadMagic", "trace", begins=b""),
+
+# Lines with what the program was given.
+
+
+@pytest.mark.parametrize(
+    ("begins", "kind"),
+    [
+        (b"", "empty"),
+        (b"nxtcont1\1\0\r", "a bundle"),
+        (b"PK\3\4..", "a zip file"),
+        (b'{"run-id":"1","nextest-version":"0.9.111"}\n', "a session"),
+        (b'{"displayTimeUnit":"ms"', "a trace"),
+        (b'{\n  "displayTimeUnit": "ms"', "a trace"),
+        (b'{ "type": "suite", "event": "started"', "what a test run printed"),
+        (b"   Compiling sums v0.1.0\n", "what a test run printed"),
+        (b"\nrunning 1 test\ntest a ... ok\n", "what a test run printed"),
+        (b"hello", None),
+    ],
+)
+def test_kinds_of_files(begins: bytes, kind: str | None) -> None:
+    assert file_kinds.kind_of(begins) == kind
+
+
+@pytest.mark.parametrize(
+    ("line", "words", "begins", "sentence"),
+    [
+        (
+            "ParseHead",
+            ["record", "b"],
+            b"nxtcont1\1",
+            "this is a bundle, not a session: it is recorded already,"
+            " and rezovamy info, trace, replay or report reads it",
+        ),
+        (
+            "ReadArchive fault=BadMagic",
+            ["replay"],
+            b'{"nextest-version":"0.9.111"}',
+            "this is a session, not a bundle: rezovamy record BUNDLE < SESSION makes one,"
+            " then rezovamy replay < BUNDLE",
+        ),
+        (
+            "ReadArchive fault=BadMagic",
+            ["trace"],
+            b"",
             "standard input is empty: rezovamy trace < BUNDLE",
-        )
+        ),
+    ],
+)
+def test_one_file_for_another(line: str, words: list[str], begins: bytes, sentence: str) -> None:
+    assert said(line, *words, begins=begins) == sentence
 
 
-class Places(unittest.TestCase):
-    def test_folders(self):
-        with tempfile.TemporaryDirectory() as folder:
-            self.assertEqual(
-                said("BundleFault", "record", folder), f"{folder} is a folder: name a file in it"
-            )
-            self.assertEqual(
-                said("BundleFault", "sample", "1", f"{folder}/a b/c"),
-                f"there is no folder {folder}/a b: mkdir -p '{folder}/a b'",
-            )
-            self.assertTrue(
-                said("BundleFault", "record", f"{folder}/c").startswith(
-                    "the bundle could not be written whole, "
-                )
-            )
-            with open(f"{folder}/file", "w", encoding="ascii"):
-                self.assertEqual(
-                    said("BundleFault", "record", f"{folder}/file/d/c"),
-                    f"{folder}/file is a file, no folder: name a file elsewhere",
-                )
-            self.assertEqual(
-                said("BundleFault", "record", f"{folder}/{'é' * 128}"),
-                "the name of the file has more than 255 bytes: give it a shorter one",
-            )
-        self.assertEqual(
-            said("BundleFault", "record", ""),
-            "the path of the bundle is the empty word: name a file",
-        )
-
-    def test_no_room_left(self):
-        room, causes.is_full = causes.is_full, lambda folder: True
-        try:
-            self.assertEqual(
-                said("BundleFault", "record", "/proc/run.bundle"),
-                "no room left on /proc: make room there, or write the bundle elsewhere",
-            )
-        finally:
-            causes.is_full = room
+# Lines with places on the disk.
 
 
-class FrontEnd(unittest.TestCase):
-    def test_what_the_program_answered(self):
-        self.assertEqual(
-            recorder.sentence(["trace"], 12, "ReadArchive fault=BadMagic", b""),
+@pytest.mark.parametrize(
+    ("words", "sentence"),
+    [
+        (["record", "{folder}"], "{folder} is a folder: name a file in it"),
+        (
+            ["sample", "1", "{folder}/a b/c"],
+            "there is no folder {folder}/a b: mkdir -p '{folder}/a b'",
+        ),
+        (
+            ["record", "{folder}/file/d/c"],
+            "{folder}/file is a file, no folder: name a file elsewhere",
+        ),
+        (
+            ["record", "{folder}/" + "é" * 128],
+            "the name of the file has more than 255 bytes: give it a shorter one",
+        ),
+        (["record", ""], "the path of the bundle is the empty word: name a file"),
+    ],
+)
+def test_places_that_take_no_file(tmp_path: pathlib.Path, words: list[str], sentence: str) -> None:
+    (tmp_path / "file").touch()
+    placed = [word.format(folder=tmp_path) for word in words]
+    assert said("BundleFault", *placed) == sentence.format(folder=tmp_path)
+
+
+def test_a_place_that_takes_a_file(tmp_path: pathlib.Path) -> None:
+    sentence = said("BundleFault", "record", f"{tmp_path}/c") or ""
+    assert sentence.startswith("the bundle could not be written whole, ")
+
+
+def test_no_room_left(monkeypatch: pytest.MonkeyPatch) -> None:
+    monkeypatch.setattr(causes, "is_full", lambda folder: True)
+    assert (
+        said("BundleFault", "record", "/proc/run.bundle")
+        == "no room left on /proc: make room there, or write the bundle elsewhere"
+    )
+
+
+# Calls of the program that the front end makes.
+
+
+@pytest.mark.parametrize(
+    ("words", "status", "line", "begins", "sentence"),
+    [
+        (
+            ["trace"],
+            12,
+            "ReadArchive fault=BadMagic",
+            b"",
             "rezovamy trace: standard input is empty: rezovamy trace < BUNDLE",
-        )
-        self.assertEqual(
-            recorder.sentence(["record", "b"], -25, ""),
+        ),
+        (
+            ["record", "b"],
+            -25,
+            "",
+            None,
             "rezovamy record was ended by SIGXFSZ: see what `ulimit -a` allows, and try it again",
-        )
-        self.assertEqual(
-            recorder.sentence(["info"], 9, ""),
-            "rezovamy info ended with status 9 and said nothing: try it again, or build the program anew",
-        )
+        ),
+        (
+            ["info"],
+            9,
+            "",
+            None,
+            "rezovamy info ended with status 9 and said nothing: try it again,"
+            " or build the program anew",
+        ),
+    ],
+)
+def test_what_the_program_answered(
+    words: list[str], status: int, line: str, begins: bytes | None, sentence: str
+) -> None:
+    assert recorder.sentence(words, status, line, begins) == sentence
 
 
-class Command(unittest.TestCase):
-    """`rezovamy-runs explain`, as it is called."""
-
-    def answer(self, *words, data=b""):
-        """The status, and what is printed on either stream."""
-        done = subprocess.run(
-            [FRONT_END, "explain", *words], input=data, capture_output=True, check=False, timeout=60
-        )
-        return done.returncode, done.stdout.decode(), done.stderr.decode()
-
-    def test_words_and_the_call(self):
-        said = "`info` reads standard input: rezovamy info < run.bundle\n"
-        self.assertEqual(
-            self.answer("UnknownOption", "at=1", "--", "rezovamy", "info", "run.bundle"),
-            (0, said, ""),
-        )
-
-    def test_standard_input_and_what_the_program_was_given(self):
-        said = "this is a session, not a bundle: rezovamy record BUNDLE < SESSION makes one, then rezovamy info < BUNDLE\n"
-        words = ("-", "--input", str(EXAMPLES / "one_test.session"))
-        self.assertEqual(self.answer(*words, data=b"ReadArchive fault=BadMagic\n"), (0, said, ""))
-
-    def test_refusals_are_one_line(self):
-        for words, status, begin in (
-            ((), 2, "a line is wanted, as in "),
-            (("NoSuchLine",), 1, "rezovamy has no fault line `NoSuchLine`: "),
-            (("-",), 1, "standard input has no line: "),
-            (("ParseHead", "--input", "/none"), 1, "/none can't be read: "),
-        ):
-            found, out, said = self.answer(*words)
-            self.assertEqual((found, out, said.count("\n")), (status, "", 1))
-            self.assertTrue(said.startswith(f"rezovamy-runs: {begin}"), said)
+# The command `explain`, as it is called.
 
 
-class Program(unittest.TestCase):
-    """What the built program answers is explained, and the advice holds."""
+def called(*words: str, data: bytes = b"") -> tuple[int, str, str]:
+    """Return the status of the command, and what it prints on either stream."""
+    done = subprocess.run(
+        [FRONT / "rezovamy-runs", "explain", *words],
+        input=data,
+        capture_output=True,
+        check=False,
+        timeout=60,
+    )
+    return done.returncode, done.stdout.decode(), done.stderr.decode()
 
-    def setUp(self):
-        try:
-            self.path = recorder.find()
-        except Fault as fault:
-            self.skipTest(str(fault))
-        self.session = (EXAMPLES / "one_test.session").read_bytes()
-        self.folder = self.enterContext(tempfile.TemporaryDirectory())
-        self.bundle = os.path.join(self.folder, "b")
 
-    def answer(self, words, data=b"", **streams):
-        """The line that the program answers, and what is said of it."""
-        streams.setdefault("stdout", subprocess.PIPE)
-        done = subprocess.run(
-            [self.path, *words],
-            input=data,
-            stderr=subprocess.PIPE,
-            check=False,
-            timeout=60,
-            **streams,
-        )
+@pytest.mark.parametrize(
+    ("words", "data", "sentence"),
+    [
+        (
+            ["UnknownOption", "at=1", "--", "rezovamy", "info", "run.bundle"],
+            b"",
+            "`info` reads standard input: rezovamy info < run.bundle",
+        ),
+        (
+            ["-", "--input", str(SESSION)],
+            b"ReadArchive fault=BadMagic\n",
+            "this is a session, not a bundle: rezovamy record BUNDLE < SESSION makes one,"
+            " then rezovamy info < BUNDLE",
+        ),
+    ],
+)
+def test_the_command_prints_the_sentence(words: list[str], data: bytes, sentence: str) -> None:
+    assert called(*words, data=data) == (0, f"{sentence}\n", "")
+
+
+@pytest.mark.parametrize(
+    ("words", "status", "begin"),
+    [
+        ([], 2, "a line is wanted, as in "),
+        (["NoSuchLine"], 1, "rezovamy has no fault line `NoSuchLine`: "),
+        (["-"], 1, "standard input has no line: "),
+        (["ParseHead", "--input", "/none"], 1, "/none can't be read: "),
+    ],
+)
+def test_refusals_of_the_command_are_one_line(words: list[str], status: int, begin: str) -> None:
+    found, printed, warned = called(*words)
+    assert (found, printed, warned.count("\n")) == (status, "", 1)
+    assert warned.startswith(f"rezovamy-runs: {begin}")
+
+
+# What the built program answers is explained, and the advice holds.
+
+
+@dataclasses.dataclass(frozen=True)
+class Explained:
+    """The built program, and a path for a bundle."""
+
+    path: pathlib.Path
+    bundle: pathlib.Path
+
+    def answer(self, words: list[str], data: bytes = b"", output: str = "") -> tuple[str, str]:
+        """Return the line that the program answers, and what is said of it.
+
+        What it prints goes into the file `output`.
+        """
+        with open(output or "/dev/null", "wb") as stdout:
+            done = subprocess.run(
+                [self.path, *words],
+                input=data,
+                stdout=stdout,
+                stderr=subprocess.PIPE,
+                check=False,
+                timeout=60,
+            )
         line = done.stderr.decode()
-        return line, line and explain(line, causes.Call(tuple(words), data[:100]))
+        return line, (said(line, *words, begins=data[:100]) or "") if line else ""
 
-    def test_limits_are_raised_as_the_sentence_says(self):
-        line, sentence = self.answer(["record", self.bundle, "--read-limit", "1914"], self.session)
-        self.assertEqual(line, "FileTooLarge file_name=run.log.zst size=1915 limit=1914\n")
-        self.assertEqual(
-            sentence,
-            "run.log.zst has 1915 bytes, and 1914 may be read: the option --read-limit 1915 takes it",
-        )
-        self.assertEqual(
-            self.answer(["record", self.bundle, "--read-limit", "1915"], self.session), ("", "")
-        )
-        line, sentence = self.answer(
-            ["info", "--session-limit", "9"], pathlib.Path(self.bundle).read_bytes()
-        )
-        self.assertEqual(
-            sentence, "the bundle has more than 9 bytes: the option --session-limit raises that"
-        )
+    def record(self, *options: str, data: bytes | None = None) -> tuple[str, str]:
+        """Record the session, or other bytes."""
+        session = SESSION.read_bytes() if data is None else data
+        return self.answer(["record", str(self.bundle), *options], session)
 
-    def test_one_file_for_another(self):
-        self.answer(["record", self.bundle], self.session)
-        bundle = pathlib.Path(self.bundle).read_bytes()
-        self.assertTrue(
-            self.answer(["record", self.bundle], bundle)[1].startswith(
-                "this is a bundle, not a session: "
-            )
-        )
-        self.assertTrue(
-            self.answer(["info"], self.session)[1].startswith("this is a session, not a bundle: ")
-        )
-        store = entries(bundle)[b"store.zip"]
-        said = self.answer(["info"], store)[1]
-        self.assertTrue(
-            said.startswith("this is no bundle, since none of its entries is manifest.json"), said
-        )
-
-    def test_damaged_bundles(self):
-        self.answer(["record", self.bundle], self.session)
-        bundle = pathlib.Path(self.bundle).read_bytes()
-        without = container(
-            [(name, content) for name, content in entries(bundle).items() if name != b"run.log.zst"]
-        )
-        listless = bundle.replace(b"meta/test-list.json", b"meta/test-lost.json")
-        for words, data, begin in (
-            (["info"], MAGIC + b"\2", "byte 8 begins no entry: "),
-            (
-                ["info"],
-                bundle[:-1],
-                "the bundle, or its store, ends at byte 3013 before it is whole",
-            ),
-            (["trace"], without, "the bundle has no run.log.zst, which `record` always writes"),
-            (["replay"], listless, "the store of the bundle lacks meta/test-list.json"),
-            (
-                ["report"],
-                bundle,
-                "the test alpha::a t1 ran, and the test list of the head lacks it",
-            ),
-        ):
-            self.assertTrue(
-                self.answer(words, data)[1].startswith(begin), (words, self.answer(words, data))
-            )
-
-    def test_places(self):
-        self.assertEqual(
-            self.answer(["record", self.folder], self.session)[1],
-            f"{self.folder} is a folder: name a file in it",
-        )
-        with open("/dev/full", "wb") as full:
-            self.assertTrue(
-                self.answer(["--version"], stdout=full)[1].startswith(
-                    "standard output could not be written: "
-                )
-            )
+    def recorded(self) -> bytes:
+        """Return the bundle of the session."""
+        assert self.record() == ("", "")
+        return self.bundle.read_bytes()
 
 
-if __name__ == "__main__":
-    unittest.main()
+@pytest.fixture
+def explained(program: pathlib.Path, tmp_path: pathlib.Path) -> Explained:
+    """The built program, and a path for a bundle, where nothing is yet."""
+    return Explained(program, tmp_path / "b")
+
+
+def without_log(bundle: bytes) -> bytes:
+    """Return a bundle that has no log."""
+    return container(
+        [(name, data) for name, data in entries(bundle).items() if name != b"run.log.zst"]
+    )
+
+
+@pytest.mark.program
+def test_limits_are_raised_as_the_sentence_says(explained: Explained) -> None:
+    line, sentence = explained.record("--read-limit", "1914")
+    assert line == "FileTooLarge file_name=run.log.zst size=1915 limit=1914\n"
+    assert sentence == RAISE_LIMIT
+    assert explained.record("--read-limit", "1915") == ("", "")
+    _, sentence = explained.answer(["info", "--session-limit", "9"], explained.bundle.read_bytes())
+    assert sentence == "the bundle has more than 9 bytes: the option --session-limit raises that"
+
+
+@pytest.mark.program
+def test_a_bundle_in_place_of_a_session(explained: Explained) -> None:
+    _, sentence = explained.record(data=explained.recorded())
+    assert sentence.startswith("this is a bundle, not a session: ")
+
+
+@pytest.mark.program
+def test_a_session_in_place_of_a_bundle(explained: Explained) -> None:
+    _, sentence = explained.answer(["info"], SESSION.read_bytes())
+    assert sentence.startswith("this is a session, not a bundle: ")
+
+
+@pytest.mark.program
+def test_a_store_in_place_of_a_bundle(explained: Explained) -> None:
+    _, sentence = explained.answer(["info"], entries(explained.recorded())[b"store.zip"])
+    assert sentence.startswith("this is no bundle, since none of its entries is manifest.json")
+
+
+@pytest.mark.program
+def test_damaged_bundles(explained: Explained) -> None:
+    bundle = explained.recorded()
+    listless = bundle.replace(b"meta/test-list.json", b"meta/test-lost.json")
+    ends = "the bundle, or its store, ends at byte 3013 before it is whole"
+    lacks_log = "the bundle has no run.log.zst, which `record` always writes"
+    lacks_list = "the store of the bundle lacks meta/test-list.json"
+    unlisted = "the test alpha::a t1 ran, and the test list of the head lacks it"
+    for command, data, begin in (
+        ("info", MAGIC + b"\2", "byte 8 begins no entry: "),
+        ("info", bundle[:-1], ends),
+        ("trace", without_log(bundle), lacks_log),
+        ("replay", listless, lacks_list),
+        ("report", bundle, unlisted),
+    ):
+        line, sentence = explained.answer([command], data)
+        assert sentence.startswith(begin), (command, line)
+
+
+@pytest.mark.program
+def test_a_folder_in_place_of_a_bundle(explained: Explained) -> None:
+    folder = explained.bundle.parent
+    _, sentence = explained.answer(["record", str(folder)], SESSION.read_bytes())
+    assert sentence == f"{folder} is a folder: name a file in it"
+
+
+@pytest.mark.program
+def test_standard_output_that_is_full(explained: Explained) -> None:
+    _, sentence = explained.answer(["--version"], output="/dev/full")
+    assert sentence.startswith("standard output could not be written: ")

@@ -11,7 +11,7 @@ import pytest
 from rezovamy_runs.bundles import slices
 from rezovamy_runs.bundles.events import event_of, microseconds, time_of
 from rezovamy_runs.bundles.slices import Drawing, Slice
-from rezovamy_runs.json_values import JsonObject
+from rezovamy_runs.json_values import JsonObject, members_of
 from tests import EXAMPLES, made
 from tests.made import (
     event,
@@ -194,5 +194,5 @@ def test_scripts_are_known_by_their_indices() -> None:
         ({"secs": -2, "nanos": 999_999_999}, -1_000_001),
     ],
 )
-def test_instants_are_rounded_down(time: object, rounded: int) -> None:
-    assert microseconds(time_of(time)) == rounded
+def test_instants_are_rounded_down(time: JsonObject, rounded: int) -> None:
+    assert microseconds(time_of(members_of(time))) == rounded

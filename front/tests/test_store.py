@@ -1,234 +1,274 @@
 """The folder of runs."""
 
+from __future__ import annotations
+
 import os
 import pathlib
-import tempfile
 import time
-import unittest
-from unittest import mock
+
+import pytest
 
 from rezovamy_runs.commands import junit as junit_command
-from rezovamy_runs.store import location, run_folder
 from rezovamy_runs.faults.fault import Fault
+from rezovamy_runs.store import location, run_folder
+from rezovamy_runs.store.run_folder import Store
 from tests import made
 
 FIRST, SECOND, THIRD = (
     f"{start}-0000-4000-8000-000000000000" for start in ("aaaa1111", "aaaa2222", "bbbb1111")
 )
+LISTED = "rezovamy-runs list"
 
 
-class Case(unittest.TestCase):
-    def setUp(self):
-        folder = tempfile.TemporaryDirectory()
-        self.addCleanup(folder.cleanup)
-        self.runs = run_folder.Store(pathlib.Path(folder.name, "deep/runs"))
-
-    def add(self, run_id, at=0):
-        with self.runs.adding(run_id) as aside:
-            aside.write_bytes(made.bundle(made.run_started(at), at=at, run_id=run_id))
-
-    def names(self):
-        return sorted(os.listdir(self.runs.folder))
+@pytest.fixture
+def store(tmp_path: pathlib.Path) -> Store:
+    """A store whose folder isn't there yet."""
+    return Store(tmp_path / "deep/runs")
 
 
-class Adding(Case):
-    def test_a_run_is_written_aside_and_renamed(self):
-        with self.runs.adding(FIRST) as aside:
-            aside.write_bytes(b"one")
-            self.assertEqual(self.runs.ids(), [])
-            self.assertTrue(aside.name.startswith("."))
-        self.assertEqual(self.names(), [f"{FIRST}.bundle"])
-
-    def test_after_a_fault_the_folder_is_as_it_was(self):
-        self.add(FIRST)
-        before = self.runs.path_of(FIRST).read_bytes()
-        for fault in (Fault("no"), KeyboardInterrupt(), OSError("full")):
-            with self.assertRaises(type(fault)), self.runs.adding(FIRST) as aside:
-                aside.write_bytes(b"half")
-                raise fault
-            self.assertEqual(self.names(), [f"{FIRST}.bundle"])
-        self.assertEqual(self.runs.path_of(FIRST).read_bytes(), before)
-
-    def test_two_at_once_do_not_meet(self):
-        with self.runs.adding(FIRST) as one, self.runs.adding(FIRST) as other:
-            self.assertNotEqual(one, other)
-            one.write_bytes(b"one")
-            other.write_bytes(b"other")
-        self.assertEqual(self.runs.path_of(FIRST).read_bytes(), b"one")
-        self.assertEqual(self.names(), [f"{FIRST}.bundle"])
-
-    def test_a_bundle_can_be_read_as_the_umask_says(self):
-        mask = os.umask(0o027)
-        try:
-            self.add(FIRST)
-        finally:
-            os.umask(mask)
-        self.assertEqual(self.runs.path_of(FIRST).stat().st_mode & 0o777, 0o640)
-
-    def test_a_folder_that_cannot_be_made_is_a_fault(self):
-        runs = run_folder.Store("/dev/null/runs")
-        with self.assertRaisesRegex(Fault, "REZOVAMY_RUNS"), runs.adding(FIRST):
-            pass
-
-    def test_a_folder_whose_name_is_no_text_is_a_fault(self):
-        runs = run_folder.Store(self.runs.folder / "\udcff")
-        with self.assertRaisesRegex(Fault, "no UTF-8.*REZOVAMY_RUNS"):
-            runs.prepare()
-        self.assertFalse(runs.folder.exists())
-
-    def test_what_a_killed_recording_left_is_found_after_a_day(self):
-        self.add(FIRST)
-        young, old = (self.runs.folder / f".{FIRST}.{part}.aside" for part in ("young", "old"))
-        young.touch()
-        old.touch()
-        os.utime(old, (time.time() - 90000,) * 2)
-        self.assertEqual(list(self.runs.abandoned()), [old])
+@pytest.fixture
+def three_runs(store: Store) -> Store:
+    """A store of three runs, of which the second started last and the first one first."""
+    add(store, FIRST, 0)
+    add(store, SECOND, 2000)
+    add(store, THIRD, 1000)
+    return store
 
 
-class Finding(Case):
-    def setUp(self):
-        super().setUp()
-        self.add(FIRST, 0)
-        self.add(SECOND, 2000)
-        self.add(THIRD, 1000)
-
-    def test_prefixes_are_the_shortest_but_of_four_letters(self):
-        self.assertEqual(self.runs.prefixes(), {FIRST: "aaaa1", SECOND: "aaaa2", THIRD: "bbbb"})
-
-    def test_a_run_is_found_by_a_prefix(self):
-        for word, found in [
-            ("b", THIRD),
-            ("aaaa1", FIRST),
-            ("AAAA2", SECOND),
-            (SECOND, SECOND),
-            ("last", SECOND),
-        ]:
-            self.assertEqual(self.runs.find(word), self.runs.path_of(found))
-
-    def test_a_run_is_found_by_a_path(self):
-        path = str(self.runs.path_of(THIRD))
-        self.assertEqual(self.runs.find(path), pathlib.Path(path))
-
-    def test_faults_say_what_to_do(self):
-        listed = "rezovamy-runs list"
-        for word, said in [
-            ("aaaa", "give more of it"),
-            ("cc", listed),
-            ("", listed),
-            ("no/where", listed),
-        ]:
-            with self.assertRaisesRegex(Fault, said):
-                self.runs.find(word)
-        with self.assertRaisesRegex(Fault, "no bundle is at no/where.bundle"):
-            self.runs.find("no/where.bundle")
-        with self.assertRaisesRegex(Fault, "rezovamy-runs test"):
-            run_folder.Store(self.runs.folder / "nowhere").find("last")
-
-    def test_summaries_are_the_latest_first(self):
-        self.assertEqual([run.id for run in self.runs.summaries()], [SECOND, THIRD, FIRST])
-
-    def test_a_broken_file_hides_no_run(self):
-        self.runs.path_of(SECOND).write_bytes(b"broken")
-        said = []
-        self.assertEqual([run.id for run in self.runs.summaries(said.append)], [THIRD, FIRST])
-        self.assertEqual(len(said), 1)
-        self.assertEqual(self.runs.find("last"), self.runs.path_of(THIRD))
-
-    def test_a_folder_in_place_of_a_bundle_hides_no_run(self):
-        self.runs.path_of(SECOND).unlink()
-        self.runs.path_of(SECOND).mkdir()
-        said = []
-        self.assertEqual([run.id for run in self.runs.summaries(said.append)], [THIRD, FIRST])
-        self.assertIn("Is a directory", said[0])
-
-    def test_a_pipe_in_place_of_a_bundle_is_not_waited_for(self):
-        self.runs.path_of(SECOND).unlink()
-        os.mkfifo(self.runs.path_of(SECOND))
-        said = []
-        self.assertEqual([run.id for run in self.runs.summaries(said.append)], [THIRD, FIRST])
-        self.assertIn("can't be read", said[0])
-
-    def test_other_files_are_no_runs(self):
-        (self.runs.folder / "notes.bundle").touch()
-        (self.runs.folder / f".{FIRST}.x.aside").touch()
-        self.assertEqual(self.runs.ids(), [FIRST, SECOND, THIRD])
+def add(store: Store, run_id: str, at: int = 0) -> None:
+    """Add a run that started then."""
+    with store.adding(run_id) as aside:
+        aside.write_bytes(made.bundle(made.run_started(at), at=at, run_id=run_id))
 
 
-class Folders(unittest.TestCase):
-    def setUp(self):
-        folder = tempfile.TemporaryDirectory()
-        self.addCleanup(folder.cleanup)
-        self.folder = pathlib.Path(folder.name).resolve()
-        self.addCleanup(os.chdir, os.getcwd())
-        self.enterContext(
-            mock.patch.object(location, "target_of_cargo", lambda manifest=None: None)
-        )
-        self.enterContext(mock.patch.dict(os.environ))
-        os.environ.pop("REZOVAMY_RUNS", None)
+def names(store: Store) -> list[str]:
+    """Return what stands in the folder."""
+    return sorted(os.listdir(store.folder))
 
-    def test_the_environment_says_it(self):
-        os.environ["REZOVAMY_RUNS"] = "/some/where"
-        self.assertEqual(location.runs_folder(), pathlib.Path("/some/where"))
 
-    def test_the_xml_stands_beside_it_whatever_its_name(self):
-        (self.folder / "runs").mkdir()
-        os.chdir(self.folder / "runs")
-        pathlib.Path("link").symlink_to(self.folder)
-        for words, folder in [
-            (".", self.folder),
-            ("./", self.folder),
-            ("..", self.folder.parent),
-            ("../runs", pathlib.Path("..")),
-            ("inner", pathlib.Path(".")),
-            ("inner/..", self.folder),
-            (str(self.folder / "runs"), self.folder),
-            ("link", pathlib.Path(".")),
-            ("link/..", self.folder.parent.parent),
-        ]:
-            os.environ["REZOVAMY_RUNS"] = words
-            self.assertEqual(
-                junit_command.beside(run_folder.here()), folder / "rezovamy-junit", words
-            )
+# How a run is added.
 
-    def test_without_cargo_it_is_that_of_the_workspace_above(self):
-        (self.folder / "member/src").mkdir(parents=True)
-        (self.folder / "Cargo.toml").write_text('[workspace]\nmembers = ["member"]\n')
-        (self.folder / "member/Cargo.toml").write_text("[package]\n")
-        os.chdir(self.folder / "member/src")
-        self.assertEqual(location.runs_folder(), self.folder / "target/rezovamy-runs")
-        (self.folder / "Cargo.toml").write_text("[package]\n")
-        self.assertEqual(location.runs_folder(), self.folder / "member/target/rezovamy-runs")
-        self.assertEqual(
-            location.runs_folder(self.folder / "Cargo.toml"), self.folder / "target/rezovamy-runs"
-        )
 
-    def test_a_target_directory_that_is_made_is_marked_as_cargo_does(self):
-        (self.folder / "Cargo.toml").write_text("[package]\n")
-        os.chdir(self.folder)
-        run_folder.here().prepare()
-        tag = self.folder / "target/CACHEDIR.TAG"
-        self.assertTrue(tag.read_text().startswith("Signature: 8a477f597d28d172789f06886806bc55\n"))
-        tag.unlink()
-        run_folder.here().prepare()
-        self.assertFalse(tag.exists())
-        os.environ["REZOVAMY_RUNS"] = "new/runs"
-        run_folder.here().prepare()
-        self.assertEqual(os.listdir("new"), ["runs"])
+def test_a_run_is_written_aside_and_renamed(store: Store) -> None:
+    with store.adding(FIRST) as aside:
+        aside.write_bytes(b"one")
+        assert store.ids() == []
+        assert aside.name.startswith(".")
+    assert names(store) == [f"{FIRST}.bundle"]
 
-    def test_outside_of_workspaces_it_is_a_fault(self):
-        os.chdir(self.folder)
-        with self.assertRaisesRegex(Fault, "REZOVAMY_RUNS"):
-            location.runs_folder()
 
-    def test_outside_of_workspaces_a_bundle_is_found_by_its_path(self):
-        os.chdir(self.folder)
-        pathlib.Path("one.bundle").touch()
-        runs = run_folder.here()
-        self.assertEqual(runs.find("one.bundle"), pathlib.Path("one.bundle"))
-        self.assertEqual(
-            (runs.names_run("one.bundle"), runs.shortest(FIRST), runs.is_somewhere()),
-            (True, FIRST, False),
-        )
-        for word in ("last", "aaaa"):
-            with self.assertRaisesRegex(Fault, "REZOVAMY_RUNS"):
-                runs.find(word)
+@pytest.mark.parametrize("fault", [Fault("no"), KeyboardInterrupt(), OSError("full")])
+def test_after_a_fault_the_folder_is_as_it_was(store: Store, fault: BaseException) -> None:
+    add(store, FIRST)
+    before = store.path_of(FIRST).read_bytes()
+    with pytest.raises(type(fault)), store.adding(FIRST) as aside:
+        aside.write_bytes(b"half")
+        raise fault
+    assert names(store) == [f"{FIRST}.bundle"]
+    assert store.path_of(FIRST).read_bytes() == before
+
+
+def test_two_at_once_do_not_meet(store: Store) -> None:
+    with store.adding(FIRST) as one, store.adding(FIRST) as other:
+        assert one != other
+        one.write_bytes(b"one")
+        other.write_bytes(b"other")
+    assert store.path_of(FIRST).read_bytes() == b"one"
+    assert names(store) == [f"{FIRST}.bundle"]
+
+
+def test_a_bundle_can_be_read_as_the_umask_says(store: Store) -> None:
+    mask = os.umask(0o027)
+    try:
+        add(store, FIRST)
+    finally:
+        os.umask(mask)
+    assert store.path_of(FIRST).stat().st_mode & 0o777 == 0o640
+
+
+def test_a_folder_that_cannot_be_made_is_a_fault() -> None:
+    with pytest.raises(Fault, match="REZOVAMY_RUNS"), Store("/dev/null/runs").adding(FIRST):
+        pass
+
+
+def test_a_folder_whose_name_is_no_text_is_a_fault(tmp_path: pathlib.Path) -> None:
+    store = Store(tmp_path / "\udcff")
+    with pytest.raises(Fault, match="no UTF-8.*REZOVAMY_RUNS"):
+        store.prepare()
+    assert not store.folder.exists()
+
+
+def test_what_a_killed_recording_left_is_found_after_a_day(store: Store) -> None:
+    add(store, FIRST)
+    young, old = (store.folder / f".{FIRST}.{part}.aside" for part in ("young", "old"))
+    young.touch()
+    old.touch()
+    os.utime(old, (time.time() - 90000,) * 2)
+    assert list(store.abandoned()) == [old]
+
+
+# How a run is found.
+
+
+def test_prefixes_are_the_shortest_but_of_four_letters(three_runs: Store) -> None:
+    assert three_runs.prefixes() == {FIRST: "aaaa1", SECOND: "aaaa2", THIRD: "bbbb"}
+
+
+@pytest.mark.parametrize(
+    ("word", "found"),
+    [("b", THIRD), ("aaaa1", FIRST), ("AAAA2", SECOND), (SECOND, SECOND), ("last", SECOND)],
+)
+def test_a_run_is_found_by_a_prefix(three_runs: Store, word: str, found: str) -> None:
+    assert three_runs.find(word) == three_runs.path_of(found)
+
+
+def test_a_run_is_found_by_a_path(three_runs: Store) -> None:
+    path = three_runs.path_of(THIRD)
+    assert three_runs.find(str(path)) == path
+
+
+@pytest.mark.parametrize(
+    ("word", "said"),
+    [
+        ("aaaa", "give more of it"),
+        ("cc", LISTED),
+        ("", LISTED),
+        ("no/where", LISTED),
+        ("no/where.bundle", "no bundle is at no/where.bundle"),
+    ],
+)
+def test_faults_say_what_to_do(three_runs: Store, word: str, said: str) -> None:
+    with pytest.raises(Fault, match=said):
+        three_runs.find(word)
+
+
+def test_without_runs_there_is_no_last_one(store: Store) -> None:
+    with pytest.raises(Fault, match="rezovamy-runs test"):
+        store.find("last")
+
+
+def test_summaries_are_the_latest_first(three_runs: Store) -> None:
+    assert [run.id for run in three_runs.summaries()] == [SECOND, THIRD, FIRST]
+
+
+def test_a_broken_file_hides_no_run(three_runs: Store) -> None:
+    three_runs.path_of(SECOND).write_bytes(b"broken")
+    said: list[str] = []
+    assert [run.id for run in three_runs.summaries(said.append)] == [THIRD, FIRST]
+    assert len(said) == 1
+    assert three_runs.find("last") == three_runs.path_of(THIRD)
+
+
+def test_a_folder_in_place_of_a_bundle_hides_no_run(three_runs: Store) -> None:
+    three_runs.path_of(SECOND).unlink()
+    three_runs.path_of(SECOND).mkdir()
+    said: list[str] = []
+    assert [run.id for run in three_runs.summaries(said.append)] == [THIRD, FIRST]
+    assert "Is a directory" in said[0]
+
+
+def test_a_pipe_in_place_of_a_bundle_is_not_waited_for(three_runs: Store) -> None:
+    three_runs.path_of(SECOND).unlink()
+    os.mkfifo(three_runs.path_of(SECOND))
+    said: list[str] = []
+    assert [run.id for run in three_runs.summaries(said.append)] == [THIRD, FIRST]
+    assert "can't be read" in said[0]
+
+
+def test_other_files_are_no_runs(three_runs: Store) -> None:
+    (three_runs.folder / "notes.bundle").touch()
+    (three_runs.folder / f".{FIRST}.x.aside").touch()
+    assert three_runs.ids() == [FIRST, SECOND, THIRD]
+
+
+# Where the folder is.
+
+
+@pytest.fixture
+def folder(tmp_path: pathlib.Path, monkeypatch: pytest.MonkeyPatch) -> pathlib.Path:
+    """The folder in which the process is, of which cargo knows nothing."""
+    folder = tmp_path.resolve()
+    monkeypatch.chdir(folder)
+    monkeypatch.setattr(location, "target_of_cargo", lambda manifest=None: None)
+    monkeypatch.delenv("REZOVAMY_RUNS", raising=False)
+    return folder
+
+
+@pytest.mark.usefixtures("folder")
+def test_the_environment_says_it(monkeypatch: pytest.MonkeyPatch) -> None:
+    monkeypatch.setenv("REZOVAMY_RUNS", "/some/where")
+    assert location.runs_folder() == pathlib.Path("/some/where")
+
+
+@pytest.mark.parametrize(
+    ("word", "parent"),
+    [
+        (".", "{folder}"),
+        ("./", "{folder}"),
+        ("..", "{folder.parent}"),
+        ("../runs", ".."),
+        ("inner", "."),
+        ("inner/..", "{folder}"),
+        ("{folder}/runs", "{folder}"),
+        ("link", "."),
+        ("link/..", "{folder.parent.parent}"),
+    ],
+)
+def test_the_xml_stands_beside_it_whatever_its_name(
+    folder: pathlib.Path, monkeypatch: pytest.MonkeyPatch, word: str, parent: str
+) -> None:
+    (folder / "runs").mkdir()
+    monkeypatch.chdir(folder / "runs")
+    pathlib.Path("link").symlink_to(folder)
+    monkeypatch.setenv("REZOVAMY_RUNS", word.format(folder=folder))
+    beside = pathlib.Path(parent.format(folder=folder)) / "rezovamy-junit"
+    assert junit_command.beside(run_folder.here()) == beside
+
+
+def test_without_cargo_it_is_that_of_the_workspace_above(
+    folder: pathlib.Path, monkeypatch: pytest.MonkeyPatch
+) -> None:
+    (folder / "member/src").mkdir(parents=True)
+    (folder / "Cargo.toml").write_text('[workspace]\nmembers = ["member"]\n')
+    (folder / "member/Cargo.toml").write_text("[package]\n")
+    monkeypatch.chdir(folder / "member/src")
+    assert location.runs_folder() == folder / "target/rezovamy-runs"
+    (folder / "Cargo.toml").write_text("[package]\n")
+    assert location.runs_folder() == folder / "member/target/rezovamy-runs"
+    named = location.runs_folder(str(folder / "Cargo.toml"))
+    assert named == folder / "target/rezovamy-runs"
+
+
+def test_a_target_directory_that_is_made_is_marked_as_cargo_does(
+    folder: pathlib.Path, monkeypatch: pytest.MonkeyPatch
+) -> None:
+    (folder / "Cargo.toml").write_text("[package]\n")
+    run_folder.here().prepare()
+    tag = folder / "target/CACHEDIR.TAG"
+    assert tag.read_text().startswith("Signature: 8a477f597d28d172789f06886806bc55\n")
+    tag.unlink()
+    run_folder.here().prepare()
+    assert not tag.exists()
+    monkeypatch.setenv("REZOVAMY_RUNS", "new/runs")
+    run_folder.here().prepare()
+    assert os.listdir("new") == ["runs"]
+
+
+@pytest.mark.usefixtures("folder")
+def test_outside_of_workspaces_it_is_a_fault() -> None:
+    with pytest.raises(Fault, match="REZOVAMY_RUNS"):
+        location.runs_folder()
+
+
+@pytest.mark.usefixtures("folder")
+def test_outside_of_workspaces_a_bundle_is_found_by_its_path() -> None:
+    path = pathlib.Path("one.bundle")
+    path.touch()
+    runs = run_folder.here()
+    assert runs.find("one.bundle") == path
+    assert runs.names_run("one.bundle")
+    assert runs.shortest(FIRST) == FIRST
+    assert not runs.is_somewhere()
+    for word in ("last", "aaaa"):
+        with pytest.raises(Fault, match="REZOVAMY_RUNS"):
+            runs.find(word)

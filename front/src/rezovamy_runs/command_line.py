@@ -52,7 +52,8 @@ def add_run(parser: argparse.ArgumentParser, default: str | None = "last") -> No
 def options_of(kind: type[Options], words: argparse.Namespace) -> Options:
     """Return the options of a command, a dataclass, as they stand in the words that were read."""
     assert dataclasses.is_dataclass(kind)
-    return kind(**{field.name: getattr(words, field.name) for field in dataclasses.fields(kind)})
+    values = vars(words)
+    return kind(**{field.name: values[field.name] for field in dataclasses.fields(kind)})
 
 
 def command_line(description: str | None) -> argparse.ArgumentParser:

@@ -9,15 +9,7 @@ from __future__ import annotations
 import dataclasses
 from collections.abc import Callable, Mapping
 
-from rezovamy_runs.json_values import (
-    JsonObject,
-    list_of,
-    number_of,
-    object_of,
-    refuse,
-    text_of,
-    texts_of,
-)
+from rezovamy_runs.json_values import Members, WrongMember, members_of
 from rezovamy_runs.model import Result, Stream, TestName
 
 SECOND = 10**9
@@ -176,15 +168,14 @@ class TestSkipped(Event):
 
 def event_of(value: object) -> Event:
     """Return the event that a value of JSON is."""
-    members = object_of(value)
-    read = READERS.get(text_of(members["kind"]))
+    members = members_of(value)
+    read = READERS.get(members.text("kind"))
     return read(members) if read else Event(*when(members))
 
 
-def time_of(value: object) -> int:
+def time_of(members: Members) -> int:
     """Return the nanoseconds of an instant, since 1970-01-01 UTC, or of a length of time."""
-    members = object_of(value)
-    return number_of(members["secs"]) * SECOND + number_of(members["nanos"])
+    return members.whole_number("secs") * SECOND + members.whole_number("nanos")
 
 
 def seconds(time: int) -> float:
@@ -197,65 +188,73 @@ def microseconds(time: int) -> int:
     return time // 1000
 
 
-def when(members: JsonObject) -> tuple[int, int]:
+def when(event: Members) -> tuple[int, int]:
     """Return what each event begins with."""
-    return time_of(members["timestamp"]), time_of(members["elapsed"])
+    return time_of(event.inner("timestamp")), time_of(event.inner("elapsed"))
 
 
-def test_name(value: object) -> TestName:
+def test_name(members: Members) -> TestName:
     """Return the name of a test."""
-    members = object_of(value)
-    return TestName(text_of(members["binary-id"]), text_of(members["test-name"]))
+    return TestName(members.text("binary-id"), members.text("test-name"))
 
 
-def test_of(members: JsonObject) -> TestName:
+def test_of(event: Members) -> TestName:
     """Return the name of an event's test."""
-    return test_name(members["test-instance"])
+    return test_name(event.inner("test-instance"))
 
 
-def stress_of(members: JsonObject) -> int | None:
+def stress_of(event: Members) -> int | None:
     """Return the number of the sub-run of an event, None where it is of none."""
-    index = members.get("stress-index")
-    return number_of(object_of(index)["current"]) if index else None
+    index = event.optional_inner("stress-index")
+    return index.whole_number("current") if index else None
 
 
-def slot_of(members: JsonObject) -> int:
+def slot_of(event: Members) -> int:
     """Return the slot on which an attempt starts."""
-    return number_of(object_of(members["slot-assignment"])["global-slot"])
+    return event.inner("slot-assignment").whole_number("global-slot")
 
 
-def attempt_numbers(members: JsonObject) -> tuple[int, int]:
+def unseen_of(run_end: Members) -> tuple[int, tuple[TestName, ...]]:
+    """Return how many tests never started or never ended by a run's end, and the named ones."""
+    unseen = run_end.optional_inner("outstanding-not-seen")
+    if unseen is None:
+        return 0, ()
+    return unseen.whole_number("total-not-seen"), tuple(
+        map(test_name, unseen.inner_list("not-seen"))
+    )
+
+
+def attempt_numbers(members: Members) -> tuple[int, int]:
     """Return which attempt it is, of how many; the only one where nothing says so."""
-    retry = members.get("retry-data")
-    if not retry:
+    retry = members.optional_inner("retry-data")
+    if retry is None:
         return 1, 1
-    numbers = object_of(retry)
-    return number_of(numbers["attempt"]), number_of(numbers["total-attempts"])
+    return retry.whole_number("attempt"), retry.whole_number("total-attempts")
 
 
 def result_of(value: object) -> tuple[Result, str]:
     """Return a result, and its exit code or signal in words."""
     if isinstance(value, str):
         return Result(value), ""
-    ((kind, rest),) = object_of(value).items()
-    if kind in ("leak", "timeout"):
-        return COUNTED[kind, text_of(rest)], ""
-    failure = object_of(object_of(rest)["failure"])
-    if "abort" not in failure:
-        return Result.FAIL, f"exit code {failure['exit-code']}"
-    signal = object_of(failure["abort"])
-    name = f", {signal['name']}" if signal.get("name") else ""
-    return Result.ABORT, f"signal {signal['signal']}{name}"
+    result = members_of(value, "a result")
+    for kind in ("leak", "timeout"):
+        if result.has(kind):
+            return COUNTED[kind, result.text(kind)], ""
+    failure = result.inner("fail").inner("failure")
+    signal = failure.optional_inner("abort")
+    if signal is None:
+        return Result.FAIL, f"exit code {failure.whole_number('exit-code')}"
+    name = signal.optional_text("name")
+    return Result.ABORT, f"signal {signal.whole_number('signal')}{f', {name}' if name else ''}"
 
 
-def outputs_of(value: object) -> tuple[Output, ...]:
+def outputs_of(members: Members) -> tuple[Output, ...]:
     """Return the outputs that an attempt's log names."""
-    members = object_of(value)
-    named = object_of(members["split"]) if "split" in members else members
+    named = members.inner("split") if members.has("split") else members
     return tuple(
-        output_of(STREAMS[name], place)
-        for name, place in named.items()
-        if name in STREAMS and place is not None
+        output_of(stream, named.required(name))
+        for name, stream in STREAMS.items()
+        if named.has(name)
     )
 
 
@@ -263,117 +262,112 @@ def output_of(stream: Stream, value: object) -> Output:
     """Return an output, by its name in the store."""
     if value == "empty":
         return Output(stream, None)
-    ((form, place),) = object_of(value).items()
-    if form != "truncated":
-        return Output(stream, text_of(place))
-    cut = object_of(place)
-    return Output(stream, text_of(cut["file-name"]), number_of(cut["original-size"]))
+    place = members_of(value, "an output")
+    cut = place.optional_inner("truncated")
+    if cut is None:
+        return Output(stream, place.text("full"))
+    return Output(stream, cut.text("file-name"), cut.whole_number("original-size"))
 
 
-def errors_of(members: JsonObject, captured: JsonObject) -> str | None:
+def errors_of(status: Members, captured: Members) -> str | None:
     """Return what went wrong in an attempt, by its own words or by its summary."""
-    errors = "\n".join(texts_of(captured.get("errors") or []))
+    errors = "\n".join(captured.optional_texts("errors"))
     if errors:
         return errors
-    summary = members.get("error-summary")
-    return text_of(object_of(summary)["description"]) if summary else None
+    summary = status.optional_inner("error-summary")
+    return summary.text("description") if summary else None
 
 
-def attempt_end(value: object) -> AttemptEnd:
+def attempt_end(status: Members) -> AttemptEnd:
     """Return what is told of an attempt that ended."""
-    members = object_of(value)
-    output = object_of(members["output"])
-    if "start-error" in output:
-        errors: str | None = text_of(output["start-error"])
-        outputs: tuple[Output, ...] = ()
-    else:
-        captured = object_of(output["output"])
-        errors = errors_of(members, captured)
-        outputs = outputs_of(captured["output"])
+    output = status.inner("output")
+    errors, outputs = output.optional_text("start-error"), tuple[Output, ...]()
+    if errors is None:
+        captured = output.inner("output")
+        errors = errors_of(status, captured)
+        outputs = outputs_of(captured.inner("output"))
     return AttemptEnd(
-        *attempt_numbers(members),
-        time_of(members["start-time"]),
-        time_of(members["time-taken"]),
-        bool(members["is-slow"]),
-        *result_of(members["result"]),
+        *attempt_numbers(status),
+        time_of(status.inner("start-time")),
+        time_of(status.inner("time-taken")),
+        status.truth("is-slow"),
+        *result_of(status.required("result")),
         errors,
         outputs,
     )
 
 
-def run_started(members: JsonObject) -> RunStarted:
+def run_started(event: Members) -> RunStarted:
     """Read the start of a run."""
-    profile, cli_args = text_of(members["profile-name"]), texts_of(members["cli-args"])
-    return RunStarted(*when(members), profile, cli_args)
+    return RunStarted(*when(event), event.text("profile-name"), event.texts("cli-args"))
 
 
-def run_finished(members: JsonObject) -> RunFinished:
+def run_finished(event: Members) -> RunFinished:
     """Read the end of a run."""
-    unseen = object_of(members.get("outstanding-not-seen") or {})
-    stats = object_of(object_of(members.get("run-stats") or {}).get("single") or {})
+    stats = event.optional_inner("run-stats")
+    single = stats.optional_inner("single") if stats else None
     return RunFinished(
-        *when(members),
-        time_of(members["run-elapsed"]),
-        number_of(unseen.get("total-not-seen", 0)),
-        tuple(map(test_name, list_of(unseen.get("not-seen", [])))),
-        number_of(stats["flaky"]) if stats else None,
-        number_of(stats["skipped"]) if stats else None,
+        *when(event),
+        time_of(event.inner("run-elapsed")),
+        *unseen_of(event),
+        single.whole_number("flaky") if single else None,
+        single.whole_number("skipped") if single else None,
     )
 
 
-def script_started(members: JsonObject) -> ScriptStarted:
+def script_started(event: Members) -> ScriptStarted:
     """Read the start of a setup script."""
     return ScriptStarted(
-        *when(members),
-        number_of(members["index"]),
-        text_of(members["script-id"]),
-        text_of(members["program"]),
-        texts_of(members["args"]),
-        stress_of(members),
+        *when(event),
+        event.whole_number("index"),
+        event.text("script-id"),
+        event.text("program"),
+        event.texts("args"),
+        stress_of(event),
     )
 
 
-def script_finished(members: JsonObject) -> ScriptFinished:
+def script_finished(event: Members) -> ScriptFinished:
     """Read the end of a setup script."""
-    end = attempt_end(members["run-status"])
-    return ScriptFinished(*when(members), number_of(members["index"]), end)
+    end = attempt_end(event.inner("run-status"))
+    return ScriptFinished(*when(event), event.whole_number("index"), end)
 
 
-def test_started(members: JsonObject) -> TestStarted:
+def test_started(event: Members) -> TestStarted:
     """Read the start of a test."""
-    return TestStarted(*when(members), test_of(members), slot_of(members), stress_of(members))
+    return TestStarted(*when(event), test_of(event), slot_of(event), stress_of(event))
 
 
-def test_retried(members: JsonObject) -> TestRetried:
+def test_retried(event: Members) -> TestRetried:
     """Read the start of a further attempt."""
-    test, slot, stress = test_of(members), slot_of(members), stress_of(members)
-    return TestRetried(*when(members), test, slot, stress, *attempt_numbers(members))
+    test, slot, stress = test_of(event), slot_of(event), stress_of(event)
+    return TestRetried(*when(event), test, slot, stress, *attempt_numbers(event))
 
 
-def attempt_failed(members: JsonObject) -> AttemptFailed:
+def attempt_failed(event: Members) -> AttemptFailed:
     """Read the end of an attempt after which another one follows."""
-    return AttemptFailed(*when(members), test_of(members), attempt_end(members["run-status"]))
+    return AttemptFailed(*when(event), test_of(event), attempt_end(event.inner("run-status")))
 
 
-def test_finished(members: JsonObject) -> TestFinished:
+def test_finished(event: Members) -> TestFinished:
     """Read the end of a test."""
-    told = object_of(members["run-statuses"])
-    ends = tuple(map(attempt_end, list_of(told["statuses"])))
+    told = event.inner("run-statuses")
+    ends = tuple(map(attempt_end, told.inner_list("statuses")))
     if not ends:
-        refuse(told["statuses"], "list with an attempt")
-    return TestFinished(*when(members), test_of(members), ends, told.get("flaky-result") == "fail")
+        raise WrongMember("'statuses' has no attempt")
+    flaky_fails = told.optional_text("flaky-result") == "fail"
+    return TestFinished(*when(event), test_of(event), ends, flaky_fails)
 
 
-def test_skipped(members: JsonObject) -> TestSkipped:
+def test_skipped(event: Members) -> TestSkipped:
     """Read that a test was left out."""
-    reason = text_of(members["reason"])
-    return TestSkipped(*when(members), test_of(members), reason, stress_of(members))
+    return TestSkipped(*when(event), test_of(event), event.text("reason"), stress_of(event))
 
 
-READERS: Mapping[str, Callable[[JsonObject], Event]] = {
+READERS: Mapping[str, Callable[[Members], Event]] = {
     "run-started": run_started,
     "run-finished": run_finished,
-    "run-begin-cancel": lambda it: RunCancelled(*when(it), text_of(it["reason"])),
+    "run-begin-cancel": lambda it: RunCancelled(*when(it), it.text("reason")),
     "run-paused": lambda it: RunPaused(*when(it)),
     "run-continued": lambda it: RunContinued(*when(it)),
     "setup-script-started": script_started,

@@ -7,7 +7,7 @@ import json
 
 from rezovamy_runs.bundles.container import Unreadable
 from rezovamy_runs.bundles.events import seconds, time_of
-from rezovamy_runs.json_values import JsonObject, number_of, object_of, text_of, texts_of
+from rezovamy_runs.json_values import Members, members_of
 from rezovamy_runs.model import Status
 
 # The versions of bundles and of their stores that are read here.
@@ -33,35 +33,28 @@ class Manifest:
 
 def manifest_of(data: bytes) -> Manifest:
     """Return the manifest that a bundle has; one of a version that isn't known is a fault."""
-    members = object_of(json.loads(data))
-    run = object_of(members["run"])
-    check_versions(object_of(members["format-version"]), run)
-    status = object_of(run["status"])
-    parent = run.get("parent-run-id")
+    members = members_of(json.loads(data))
+    run = members.inner("run")
+    check_versions(members.inner("format-version"), run)
+    status = run.inner("status")
     return Manifest(
-        text_of(run["run-id"]),
-        text_of(run["nextest-version"]),
-        seconds(time_of(run["started-at"])),
-        texts_of(run.get("cli-args") or []),
-        Status(text_of(status["status"])),
-        optional_number(status, "exit-code"),
-        optional_number(status, "passed"),
-        optional_number(status, "failed"),
-        None if parent is None else text_of(parent),
+        run.text("run-id"),
+        run.text("nextest-version"),
+        seconds(time_of(run.inner("started-at"))),
+        run.optional_texts("cli-args"),
+        Status(status.text("status")),
+        status.optional_whole_number("exit-code"),
+        status.optional_whole_number("passed"),
+        status.optional_whole_number("failed"),
+        run.optional_text("parent-run-id"),
     )
 
 
-def optional_number(members: JsonObject, name: str) -> int | None:
-    """Return a number that an object may lack."""
-    value = members.get(name)
-    return None if value is None else number_of(value)
-
-
-def check_versions(version: JsonObject, run: JsonObject) -> None:
+def check_versions(version: Members, run: Members) -> None:
     """Refuse a bundle of another major version, or of a later minor one."""
-    made = number_of(version["major"]), number_of(version["minor"])
-    minor = number_of(run.get("store-format-minor-version", 0))
-    stored = number_of(run["store-format-version"]), minor
+    made = version.whole_number("major"), version.whole_number("minor")
+    minor = run.optional_whole_number("store-format-minor-version") or 0
+    stored = run.whole_number("store-format-version"), minor
     for found, known in ((made, FORMAT), (stored, STORE_FORMAT)):
         if found[0] != known[0] or found[1] > known[1]:
             raise Unreadable(

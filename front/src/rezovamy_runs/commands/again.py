@@ -10,7 +10,7 @@ from collections.abc import Iterable
 from rezovamy_runs import formatting
 from rezovamy_runs import recorder
 from rezovamy_runs.bundles import bundle
-from rezovamy_runs.command_line import say
+from rezovamy_runs.command_line import add_run, options_of, say
 from rezovamy_runs.commands import test as test_command
 from rezovamy_runs.faults.fault import Fault
 from rezovamy_runs.model import Summary
@@ -39,13 +39,13 @@ class Options:
 def add_options(parser: argparse.ArgumentParser) -> None:
     """Take a run, and what else is written."""
     parser.usage = "rezovamy-runs again [--page] [--junit] [RUN] [-- WORDS OF CARGO TEST]"
-    run_folder.add_run(parser)
+    add_run(parser)
     test_command.add_outputs(parser)
 
 
 def run(words: argparse.Namespace) -> int:
     """Run the tests again, record them, and return their status; 0 where all have passed."""
-    options = Options(words.run, words.page, words.junit, words.rest)
+    options = options_of(Options, words)
     manifest = cargo_test.manifest_of(options.rest)
     runs = run_folder.here(manifest)
     path = runs.find(options.run)
@@ -79,8 +79,7 @@ def say_each(lines: Iterable[str]) -> None:
 
 def plan_of(path: pathlib.Path) -> Plan:
     """Return what is to be run again of the run in a bundle, as the program says it."""
-    with bundle.opened(path) as opened:
-        text = recorder.run(["rerun", *recorder.limits(path.stat().st_size)], stdin=opened)
+    text = recorder.run_on_bundle(["rerun"], path)
     try:
         return rerun_plan.read(text.decode())
     except (rerun_plan.NoPlan, UnicodeDecodeError) as fault:

@@ -4,11 +4,11 @@ from __future__ import annotations
 
 import argparse
 import contextlib
+import dataclasses
 import pathlib
 
 from rezovamy_runs import recorder
-from rezovamy_runs.bundles import bundle
-from rezovamy_runs.command_line import print_out
+from rezovamy_runs.command_line import add_run, options_of, print_out
 from rezovamy_runs.commands import junit_xml
 from rezovamy_runs.faults.fault import Fault
 from rezovamy_runs.report.junit import Document, documents_of
@@ -22,9 +22,18 @@ TAKES_REST = False
 FOLDER = "rezovamy-junit"
 
 
+@dataclasses.dataclass(frozen=True)
+class Options:
+    """The options of `junit`."""
+
+    run: str
+    to: pathlib.Path | None
+    fail: bool
+
+
 def add_options(parser: argparse.ArgumentParser) -> None:
     """Take a run, and where the XML goes."""
-    run_folder.add_run(parser)
+    add_run(parser)
     parser.add_argument(
         "--to",
         type=pathlib.Path,
@@ -36,9 +45,10 @@ def add_options(parser: argparse.ArgumentParser) -> None:
 
 def run(words: argparse.Namespace) -> int:
     """Write the files, and print their paths."""
+    options = options_of(Options, words)
     runs = run_folder.here()
-    path = runs.find(words.run)
-    return write(path, words.to or beside(runs), words.fail)
+    path = runs.find(options.run)
+    return write(path, options.to or beside(runs), options.fail)
 
 
 def write(path: pathlib.Path, folder: pathlib.Path, fails: bool = False) -> int:
@@ -63,8 +73,7 @@ def write(path: pathlib.Path, folder: pathlib.Path, fails: bool = False) -> int:
 
 def bundle_documents(path: pathlib.Path) -> list[Document]:
     """Return the documents of the runs of a bundle, as the program reports them."""
-    with bundle.opened(path) as opened:
-        report = recorder.run(["report", *recorder.limits(path.stat().st_size)], stdin=opened)
+    report = recorder.run_on_bundle(["report"], path)
     try:
         return documents_of(report.decode(), runs_of(path.read_bytes()), JunitWriter())
     except (NoReport, NoEvents, UnicodeError) as error:

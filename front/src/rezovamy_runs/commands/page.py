@@ -3,29 +3,33 @@
 from __future__ import annotations
 
 import argparse
+import dataclasses
 import pathlib
 import sys
 
-from rezovamy_runs.command_line import print_out, whole
+from rezovamy_runs.command_line import add_run, options_of, print_out, whole
 from rezovamy_runs.faults.fault import Fault
 from rezovamy_runs.page import document
 from rezovamy_runs.page.data import MOST_OUTPUT
-from rezovamy_runs.store import run_folder
+from rezovamy_runs.store import run_folder, whole_file
 
 SUMMARY = "write a run as one HTML page: timeline, failures, outputs"
 TAKES_REST = False
 STANDARD_OUTPUT = "-"
 
 
+@dataclasses.dataclass(frozen=True)
+class Options:
+    """The options of `page`."""
+
+    run: str
+    to: str | None
+    most_output: int
+
+
 def add_options(parser: argparse.ArgumentParser) -> None:
     """Take the run, where the page goes, and how much of an output it has."""
-    parser.add_argument(
-        "run",
-        nargs="?",
-        default="last",
-        metavar="RUN",
-        help="the beginning of a run's id, the path of a bundle, or last (last)",
-    )
+    add_run(parser)
     parser.add_argument(
         "--to",
         metavar="FILE",
@@ -44,13 +48,14 @@ def add_options(parser: argparse.ArgumentParser) -> None:
 
 def run(words: argparse.Namespace) -> int:
     """Write the page, and print where it is."""
-    path = run_folder.here().find(words.run)
-    text = document.page_of(path, words.most_output)
-    if words.to == STANDARD_OUTPUT:
+    options = options_of(Options, words)
+    path = run_folder.here().find(options.run)
+    text = document.page_of(path, options.most_output)
+    if options.to == STANDARD_OUTPUT:
         print_page(text)
     else:
-        target = pathlib.Path(words.to) if words.to else document.beside(path)
-        print_out(f"{document.written(text, target)}\n")
+        target = pathlib.Path(options.to) if options.to else beside(path)
+        print_out(f"{written(text, target)}\n")
     return 0
 
 
@@ -59,3 +64,31 @@ def print_page(text: str) -> None:
     if sys.stdout is None:
         raise Fault("standard output is closed: name a file with --to")
     print_out(document.bytes_of(text).decode())
+
+
+def beside(path: pathlib.Path) -> pathlib.Path:
+    """Return where the page of a bundle goes if no other file is named."""
+    return path.with_suffix(".html")
+
+
+def written(text: str, target: pathlib.Path) -> pathlib.Path:
+    """Write a page, and return where it is."""
+    try:
+        write(document.bytes_of(text), target)
+    except OSError as error:
+        raise Fault(
+            f"the page can't be written to {target}: {error.strerror}; "
+            "name another file with --to"
+        ) from error
+    return target
+
+
+def write(data: bytes, target: pathlib.Path) -> None:
+    """Write a file so that it is there whole or as it was; a pipe or a device is written to."""
+    if target.exists() and not target.is_file():
+        target.write_bytes(data)
+        return
+    path = target.resolve()
+    aside = whole_file.made_aside(path, path.name)
+    with whole_file.becoming(path, aside):
+        aside.write_bytes(data)

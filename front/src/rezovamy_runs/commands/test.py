@@ -13,8 +13,9 @@ from typing import BinaryIO
 from rezovamy_runs import recorder
 from rezovamy_runs import terminal
 from rezovamy_runs.bundles import bundle
-from rezovamy_runs.command_line import input_stream, print_out, whole
+from rezovamy_runs.command_line import input_stream, options_of, print_out, whole
 from rezovamy_runs.commands import junit as junit_command
+from rezovamy_runs.commands import page as page_command
 from rezovamy_runs.faults.fault import Fault
 from rezovamy_runs.page import document
 from rezovamy_runs.report.run_text import Printer
@@ -85,9 +86,7 @@ def add_outputs(parser: argparse.ArgumentParser) -> None:
 
 def run(words: argparse.Namespace) -> int:
     """Run or read the tests, record them, and return their status."""
-    options = Options(
-        words.source, words.status, words.profile, words.page, words.junit, words.rest
-    )
+    options = options_of(Options, words)
     if options.source is None and options.status is not None:
         raise Fault(
             "--status is for --from, which can't know what cargo answered: leave it out",
@@ -141,7 +140,7 @@ class Outputs:
     def _write_more(self, path: pathlib.Path) -> None:
         """Write what else is asked for of a run that was recorded, and print where it is."""
         if self.page:
-            page = document.written(document.page_of(path), document.beside(path))
+            page = page_command.written(document.page_of(path), page_command.beside(path))
             print_out(f"{page}\n")
         if self.junit:
             junit_command.write(path, junit_command.beside(self.runs))

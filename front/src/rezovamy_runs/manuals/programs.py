@@ -94,9 +94,7 @@ def runs_program() -> Program:
     """Return the front end. Which of its commands take the words after `--` no parser knows."""
     program = program_of(cli.parser(), cli.PROGRAM)
     commands = [
-        dataclasses.replace(
-            command, takes_rest=getattr(cli.module_of(command.name), "TAKES_REST", False)
-        )
+        dataclasses.replace(command, takes_rest=cli.module_of(command.name).TAKES_REST)
         for command in program.commands
     ]
     return dataclasses.replace(program, commands=tuple(commands))

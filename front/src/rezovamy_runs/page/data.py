@@ -13,10 +13,9 @@ from typing import Literal, NotRequired, TypeAlias, TypedDict
 
 from rezovamy_runs import formatting
 from rezovamy_runs.bundles.slices import Drawing, Span
-from rezovamy_runs.model import Attempt, Run, Script, Test
+from rezovamy_runs.model import Attempt, Run, Script, Status, Test, TestName, Verdict
 
 State: TypeAlias = Literal["failed", "unfinished", "flaky", "passed", "skipped", "script"]
-Names: TypeAlias = tuple[str, str]
 
 
 class PageOutput(TypedDict):
@@ -87,12 +86,12 @@ class PageData(TypedDict):
     end: int
 
 
-STATES: dict[str, State] = {
-    "fail": "failed",
-    "unfinished": "unfinished",
-    "flaky": "flaky",
-    "pass": "passed",
-    "skip": "skipped",
+STATES: dict[Verdict, State] = {
+    Verdict.FAIL: "failed",
+    Verdict.UNFINISHED: "unfinished",
+    Verdict.FLAKY: "flaky",
+    Verdict.PASS: "passed",
+    Verdict.SKIP: "skipped",
 }
 # The most bytes of an output, of all of them as JSON, and the most characters of an error.
 MOST_OUTPUT, MOST_OUTPUTS, MOST_ERROR, LEAST_ERROR = 200_000, 20_000_000, 20_000, 500
@@ -186,15 +185,9 @@ class Outputs:
 
 def placed_outputs(attempt: Attempt, outputs: Outputs) -> list[tuple[str, int]]:
     """Return the streams of an attempt with the places of what was captured of them."""
-    captured = {
-        "stdout": attempt.stdout,
-        "stderr": attempt.stderr,
-        "combined": attempt.combined,
-    }
     return [
         (stream, outputs.place(data, attempt.truncated.get(stream)))
-        for stream, data in captured.items()
-        if data is not None
+        for stream, data in attempt.outputs.items()
     ]
 
 
@@ -202,7 +195,7 @@ def page_attempt(
     attempt: Attempt, span: Span | None, drawing: Drawing, outputs: Outputs
 ) -> PageAttempt:
     """Return an attempt, with the slices of its span, if it has one."""
-    has_ended = attempt.result != "unfinished"
+    has_ended = attempt.ended is not None
     placed = placed_outputs(attempt, outputs)
     made: PageAttempt = {
         "number": attempt.number,
@@ -241,13 +234,13 @@ class SpanQueues:
     """The spans of a drawing, of which each test takes those of its attempts in their order."""
 
     def __init__(self, drawing: Drawing) -> None:
-        self.queues: dict[Names, list[list[Span]]] = {
+        self.queues: dict[TestName, list[list[Span]]] = {
             names: list(times) for names, times in drawing.tests.items()
         }
 
     def take(self, test: Test) -> dict[int, Span]:
         """Return the spans of a test's attempts by their numbers."""
-        queue = self.queues.get((test.binary, test.name))
+        queue = self.queues.get(test.key)
         return {span.number: span for span in queue.pop(0)} if queue and test.attempts else {}
 
 
@@ -312,8 +305,8 @@ def page_script(script: Script, span: Span, drawing: Drawing, outputs: Outputs) 
 def notes_of(run: Run, outputs: Outputs) -> list[str]:
     """Return what a reader has to know before all else."""
     notes = []
-    unnamed = run.counts.unseen - sum(test.verdict == "unfinished" for test in run.tests)
-    if run.status == "incomplete":
+    unnamed = run.counts.unseen - sum(test.verdict is Verdict.UNFINISHED for test in run.tests)
+    if run.status is Status.INCOMPLETE:
         notes.append("The run was broken off, or the recording of it was: it has no end.")
     if run.cancelled_for:
         notes.append(f"The run was cancelled: {reason_text(run.cancelled_for)}.")

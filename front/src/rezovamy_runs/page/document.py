@@ -3,21 +3,16 @@
 from __future__ import annotations
 
 import base64
-import contextlib
 import hashlib
 import html
 import json
-import os
 import pathlib
 import re
-import tempfile
 
 from rezovamy_runs import formatting, terminal
 from rezovamy_runs.bundles import bundle
 from rezovamy_runs.bundles.slices import draw
-from rezovamy_runs.faults.fault import Fault
 from rezovamy_runs.page.data import MOST_OUTPUT, Outputs, PageData, page_data
-from rezovamy_runs.store import run_folder
 
 PARTS = pathlib.Path(__file__).resolve().parent / "assets"
 # How much of a profile's name stands in the title of a window, which shows no more anyway.
@@ -125,41 +120,3 @@ def page_of(path: pathlib.Path, most_output: int = MOST_OUTPUT) -> str:
 def bytes_of(text: str) -> bytes:
     """Return a page as UTF-8, which halves of pairs are spelled in."""
     return text.encode("utf-8", "backslashreplace")
-
-
-def write_whole(path: pathlib.Path, text: str) -> None:
-    """Write a file aside and rename it, so that it is there whole or as it was.
-
-    A pipe or a device is written to.
-    """
-    data = bytes_of(text)
-    if path.exists() and not path.is_file():
-        path.write_bytes(data)
-        return
-    path = path.resolve()
-    descriptor, aside = tempfile.mkstemp(prefix=f".{path.name}.", dir=path.parent)
-    try:
-        with open(descriptor, "wb") as file:
-            file.write(data)
-        os.chmod(aside, 0o666 & ~run_folder.current_umask())
-        os.replace(aside, path)
-    finally:
-        with contextlib.suppress(FileNotFoundError):
-            os.unlink(aside)
-
-
-def beside(path: pathlib.Path) -> pathlib.Path:
-    """Return where the page of a bundle goes if no other file is named."""
-    return path.with_suffix(".html")
-
-
-def written(text: str, target: pathlib.Path) -> pathlib.Path:
-    """Write a page, and return where it is."""
-    try:
-        write_whole(target, text)
-    except OSError as error:
-        raise Fault(
-            f"the page can't be written to {target}: {error.strerror}; "
-            "name another file with --to"
-        ) from error
-    return target

@@ -11,11 +11,12 @@ import json
 from collections.abc import Mapping
 from typing import NamedTuple
 
+from rezovamy_runs.bundles.bundle import LOG
 from rezovamy_runs.bundles.container import MAGIC, entry
-from rezovamy_runs.report.json_members import Members, WrongMember, members_of
+from rezovamy_runs.bundles.events import stress_of, test_of, unseen_of
+from rezovamy_runs.json_values import Members, WrongMember, members_of
 from rezovamy_runs.report.run_report import Instant, instant_of
 
-LOG = b"run.log.zst"
 STRESS = "@stress-"
 NO_MESSAGE = "it failed"
 
@@ -79,10 +80,8 @@ class RunReader:
 
     def ended(self, event: Members) -> RunEvents:
         """Return the run, of which the end names tests that weren't seen."""
-        unseen = event.optional_inner("outstanding-not-seen")
-        tests = unseen.inner_list("not-seen") if unseen else []
-        total = unseen.whole_number("total-not-seen") if unseen else 0
-        named = [TestKey(test.text("binary-id"), test.text("test-name")) for test in tests]
+        total, tests = unseen_of(event)
+        named = [TestKey(*test) for test in tests]
         started = {TestKey(key.suite.partition(STRESS)[0], key.name) for key in self.started}
         never_started = {key: None for key in named if key not in started}
         return RunEvents(
@@ -97,9 +96,9 @@ class RunReader:
 
 def test_key(event: Members) -> TestKey:
     """Return the key of the test that an event is of."""
-    test, stress = event.inner("test-instance"), event.optional_inner("stress-index")
-    sub_run = f"{STRESS}{stress.whole_number('current')}" if stress else ""
-    return TestKey(test.text("binary-id") + sub_run, test.text("test-name"))
+    test, stress = test_of(event), stress_of(event)
+    sub_run = "" if stress is None else f"{STRESS}{stress}"
+    return TestKey(test.binary + sub_run, test.test)
 
 
 def short_message(event: Members) -> str:

@@ -9,7 +9,7 @@ import dataclasses
 import json
 from typing import Literal, TypeAlias
 
-from rezovamy_runs.report.json_members import Members, WrongMember, members_of
+from rezovamy_runs.json_values import Members, WrongMember, members_of
 
 FaultKind: TypeAlias = Literal["failure", "error"]
 RerunKind: TypeAlias = Literal["rerun", "flaky"]

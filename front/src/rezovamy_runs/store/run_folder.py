@@ -13,11 +13,9 @@ from collections.abc import Callable, Iterator
 
 from rezovamy_runs import formatting
 from rezovamy_runs.bundles import bundle
-from rezovamy_runs.command_line import add_run as add_run  # noqa: F401
 from rezovamy_runs.faults.fault import Fault
 from rezovamy_runs.model import Summary
 from rezovamy_runs.store import location, whole_file
-from rezovamy_runs.store.whole_file import current_umask as current_umask  # noqa: F401
 
 ENDING, ASIDE = ".bundle", ".aside"
 RUN_ID = re.compile(r"[0-9a-f]{8}(?:-[0-9a-f]{4}){3}-[0-9a-f]{12}")
