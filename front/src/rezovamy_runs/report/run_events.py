@@ -128,5 +128,5 @@ def runs_of(data: bytes) -> list[RunEvents]:
                 runs.append(run)
                 reader = RunReader()
     except (RecursionError, ValueError) as error:
-        raise NoEvents(f"no session and no bundle: {error!r}") from error
+        raise NoEvents(f"no session and no bundle: {error}") from error
     return runs
