@@ -45,9 +45,14 @@ def instant(seconds: float) -> JsonObject:
 # Events and what they have.
 
 
+def members_of(named: Mapping[str, object]) -> JsonObject:
+    """Members whose names have `_` for `-`."""
+    return {name.replace("_", "-"): value for name, value in named.items()}
+
+
 def event(kind: str, seconds: float, **members: object) -> JsonObject:
     """An event so many seconds after the start. Members are named with `_` for `-`."""
-    named = {name.replace("_", "-"): value for name, value in members.items()}
+    named = members_of(members)
     return {"timestamp": instant(seconds), "elapsed": span(seconds), "kind": kind, **named}
 
 
@@ -233,7 +238,7 @@ def bundle(
 ) -> bytes:
     """A bundle of these events as they are logged, with outputs by their files' names.
 
-    Its run may have further members.
+    Its run may have further members, which are named with `_` for `-`.
     """
     run: JsonObject = {
         "run-id": run_id,
@@ -242,7 +247,7 @@ def bundle(
         "last-written-at": instant(at),
         "status": ended or {"status": "incomplete"},
         "sizes": {},
-        **more,
+        **members_of(more),
     }
     return container_of(run, events, outputs, version, store)
 

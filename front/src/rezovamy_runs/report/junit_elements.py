@@ -125,7 +125,9 @@ def seconds_text(time: Duration | None) -> str | None:
 def first_start(suite: Suite) -> Instant | None:
     """Return when the first case of a suite started."""
     starts = [case.timestamp for case in suite.cases if case.timestamp is not None]
-    return min(starts, key=lambda start: (start.seconds, start.nanoseconds), default=None)
+    if not starts:
+        return None
+    return min(starts, key=lambda start: (start.seconds, start.nanoseconds))
 
 
 def whole_time(suite: Suite) -> Duration | None:
