@@ -10,7 +10,7 @@ import shutil
 import signal
 import subprocess
 import time
-from collections.abc import Iterator, Mapping, Sequence
+from collections.abc import Iterable, Iterator, Mapping, Sequence
 
 from tests import EXAMPLES
 from tests.front_end import hear_interrupts
@@ -56,6 +56,13 @@ class Cargo:
         with self.start(words) as run:
             lines = run.communicate()[0]
         return Answer(lines, run.returncode)
+
+    def live_lines(self, runs: Iterable[Sequence[str]]) -> Iterator[bytes]:
+        """Return the lines of runs, one after the other, as they come."""
+        for words in runs:
+            with self.start(words) as run:
+                assert run.stdout is not None
+                yield from run.stdout
 
     def text(self, *words: str) -> str:
         """Return what `cargo test` prints for people."""

@@ -179,13 +179,10 @@ def live_session(
         [TOOL], stdin=subprocess.PIPE, stdout=subprocess.PIPE, stderr=subprocess.DEVNULL
     ) as tool:
         assert tool.stdin is not None
-        for words in runs:
-            with cargo.start(event_words(words, tests)) as run:
-                assert run.stdout is not None
-                for line in run.stdout:
-                    printed.append(line)
-                    tool.stdin.write(line)
-                    tool.stdin.flush()
+        for line in cargo.live_lines([event_words(words, tests) for words in runs]):
+            printed.append(line)
+            tool.stdin.write(line)
+            tool.stdin.flush()
         text = tool.communicate()[0]
     assert tool.returncode == 0
     return b"".join(printed), Session.of(text)
