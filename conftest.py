@@ -42,7 +42,7 @@ def pytest_runtest_setup(item: pytest.Item) -> None:
         leave_out("Chromium")
 
 
-@pytest.fixture
+@pytest.fixture(scope="session")
 def program() -> pathlib.Path:
     """The path of the built program."""
     return program_path() or leave_out("the built program")

@@ -15,7 +15,8 @@ from collections.abc import Iterator, Sequence
 from typing import TypeAlias
 
 from rezovamy_runs.command_line import command_line
-from rezovamy_runs.streams.session_json import RUN_ID, event, head, instant, span, stats, text
+from rezovamy_runs.streams.session_json import event, instant, span, stats, text
+from workshop.make_session import RUN_ID, head
 
 # An object of JSON.
 Json: TypeAlias = dict[str, object]

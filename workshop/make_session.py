@@ -19,13 +19,30 @@ from collections.abc import Iterator
 from typing import TypeAlias
 
 from rezovamy_runs.command_line import command_line, whole
-from rezovamy_runs.streams.session_json import RUN_ID, event, head, instant, span, stats, text
+from rezovamy_runs.streams.session_json import HEAD, event, instant, span, stats, text
 
 # An object of JSON.
 Json: TypeAlias = dict[str, object]
 
+RUN_ID = "550e8400-e29b-41d4-a716-446655440000"
 SLOTS = 8
 MOST = 10**9
+
+
+def head(count: int, binaries: int = 4) -> Json:
+    """Return the head of a session of so many tests, which stand in so many binaries by turns."""
+    suites: dict[str, list[str]] = {}
+    for i in range(count):
+        suites.setdefault(f"bin-{i % binaries}", []).append(f"t{i}")
+    return {
+        **HEAD,
+        "run-id": RUN_ID,
+        "nextest-version": "0.9.111",
+        "started-at": instant(1000),
+        "last-written-at": instant(1011),
+        "status": {"status": "incomplete"},
+        "test-list": {"suites": suites},
+    }
 
 
 def test_id(i: int, binaries: int) -> Json:

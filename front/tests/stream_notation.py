@@ -9,9 +9,10 @@ from typing import Any
 
 from rezovamy_runs.commands import session_from_libtest
 from rezovamy_runs.commands.session_from_libtest import Options
+from rezovamy_runs.json_values import JsonObject
 from rezovamy_runs.streams.clock import Source
 from rezovamy_runs.streams.run_state import CancelReason
-from rezovamy_runs.streams.session_json import JsonObject, text
+from rezovamy_runs.streams.session_json import text
 from rezovamy_runs.streams.targets import Targets
 
 NEXTEST = {"crate": "a", "test_binary": "t", "kind": "test"}

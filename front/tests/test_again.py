@@ -156,7 +156,7 @@ def add_first_run(front_end: FrontEnd, *words: str) -> None:
         made.run_finished(1, 1),
         ended=made.completed(0, 0),
         run_id=made.ID,
-        **{"cli-args": ["cargo", "test", *words]},
+        cli_args=["cargo", "test", *words],
     )
     front_end.add_bundle(made.ID, data)
     for name, text in (
@@ -255,12 +255,14 @@ def test_a_target_that_is_gone_is_not_run(front_end: FrontEnd, programs: FakePro
     ]
 
 
-def add_unseen(front_end: FrontEnd, run_id: str, count: int, **more: object) -> None:
-    """Add a run in which so many tests never started."""
+def add_unseen(front_end: FrontEnd, run_id: str, count: int, parent: str | None = None) -> None:
+    """Add a run in which so many tests never started; it may be a rerun of another one."""
     unseen = {"not-seen": [], "total-not-seen": count}
     finished = made.run_finished(1, 1, outstanding_not_seen=unseen)
     ended = made.completed(0, 0)
-    data = made.bundle(made.run_started(), finished, ended=ended, run_id=run_id, **more)
+    data = made.bundle(
+        made.run_started(), finished, ended=ended, run_id=run_id, parent_run_id=parent
+    )
     front_end.add_bundle(run_id, data)
 
 
@@ -269,7 +271,7 @@ def test_tests_that_never_started_in_a_rerun_are_those_of_the_run_before(
 ) -> None:
     """Where that one is gone, nothing is said of them."""
     add_unseen(front_end, made.ID, 2)
-    add_unseen(front_end, OTHER, 5, **{"parent-run-id": made.ID})
+    add_unseen(front_end, OTHER, 5, parent=made.ID)
     programs.write_plan("run alpha t1")
     done = front_end.run("again", OTHER)
     assert done.returncode == 1

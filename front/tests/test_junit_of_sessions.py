@@ -23,10 +23,11 @@ def xml_of(program: Path, bundle: Path) -> list[ElementTree.Element]:
         printed = subprocess.run([program, "report"], stdin=source, stdout=subprocess.PIPE)
     assert printed.returncode == 0
     reports.write_bytes(printed.stdout)
-    words = [sys.executable, TOP / "front/junit_xml", reports, bundle.with_suffix(".junit")]
+    junit = bundle.with_suffix(".junit")
+    words = [sys.executable, str(TOP / "front/junit_xml"), str(reports), str(junit)]
     written = subprocess.run(words, capture_output=True, text=True)
     assert (written.returncode, written.stderr) == (0, "")
-    paths = written.stdout.split()
+    paths = list(map(Path, written.stdout.split()))
     assert len(paths) == len(printed.stdout.splitlines())
     assert not junit_schema.faults(paths)
     return [ElementTree.parse(path).getroot() for path in paths]

@@ -2,6 +2,7 @@
 
 from __future__ import annotations
 
+import math
 import re
 
 import pytest
@@ -24,13 +25,15 @@ def colours(block: str) -> dict[str, str]:
     return dict(re.findall(r"--([\w-]+): #([0-9a-f]{3,6})", block))
 
 
+def linear(part: float) -> float:
+    """Return the light of a part of a colour, from 0 to 1."""
+    return part / 12.92 if part <= 0.03928 else math.pow((part + 0.055) / 1.055, 2.4)
+
+
 def luminance(digits: str) -> float:
     """Return how light a colour is, from 0 to 1, as guidelines for accessible pages reckon it."""
     whole = digits if len(digits) == 6 else "".join(2 * digit for digit in digits)
-    parts = [int(whole[at : at + 2], 16) / 255 for at in (0, 2, 4)]
-    red, green, blue = (
-        part / 12.92 if part <= 0.03928 else ((part + 0.055) / 1.055) ** 2.4 for part in parts
-    )
+    red, green, blue = (linear(int(whole[at : at + 2], 16) / 255) for at in (0, 2, 4))
     return 0.2126 * red + 0.7152 * green + 0.0722 * blue
 
 

@@ -7,11 +7,11 @@ import json
 
 import pytest
 
+from rezovamy_runs.json_values import JsonObject
 from rezovamy_runs.runner.progress import Progress
 from rezovamy_runs.runner.session_builder import SessionBuilder
 from rezovamy_runs.streams.clock import measured_clock
-from rezovamy_runs.streams.run_state import Messages
-from rezovamy_runs.streams.session_json import JsonObject
+from rezovamy_runs.streams.run_state import Console
 from rezovamy_runs.terminal import Paint
 
 SUITE: JsonObject = {"type": "suite", "event": "started", "test_count": 3}
@@ -48,7 +48,7 @@ class Shown:
     def __init__(self, stream: Stream) -> None:
         self.stream, self.now = stream, 0.0
         self.progress = Progress(stream, lambda: self.now)
-        self.builder = SessionBuilder(measured_clock(1000), Messages(self.say, "rezovamy-runs"))
+        self.builder = SessionBuilder(measured_clock(1000), Console(self.say, "rezovamy-runs"))
         self.progress.reader = self.builder.reader
 
     def say(self, line: str) -> None:

@@ -7,10 +7,10 @@ import json
 import pytest
 
 from rezovamy_runs.faults.fault import Fault
+from rezovamy_runs.json_values import JsonObject
 from rezovamy_runs.runner.session_builder import Session, SessionBuilder
 from rezovamy_runs.streams.clock import measured_clock
-from rezovamy_runs.streams.run_state import CancelReason, Messages
-from rezovamy_runs.streams.session_json import JsonObject
+from rezovamy_runs.streams.run_state import CancelReason, Console
 
 SUITE: JsonObject = {"type": "suite", "event": "started", "test_count": 3}
 ONE: JsonObject = {**SUITE, "test_count": 1}
@@ -28,7 +28,7 @@ FAILED = [ONE, event("t", "started"), event("t", "failed"), END]
 
 def builder_of(said: list[str]) -> SessionBuilder:
     """Return what makes a session of a file that is there, and keeps what is said."""
-    return SessionBuilder(measured_clock(1000), Messages(said.append, "rezovamy-runs"))
+    return SessionBuilder(measured_clock(1000), Console(said.append, "rezovamy-runs"))
 
 
 def session_of(

@@ -1,4 +1,5 @@
-//! A test that crashes its process while another one runs, and before a third one has started. It wants two threads.
+//! A test that crashes its process while another one runs, and before a third one has started. It
+//! wants two threads.
 
 use std::io::Write;
 use std::sync::atomic::{AtomicBool, Ordering};

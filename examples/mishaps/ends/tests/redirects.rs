@@ -47,7 +47,8 @@ fn for_ever() {
 #[ignore = "prints"]
 fn prints_a_failure() {
     pause(2);
-    let line = "{ \"type\": \"test\", \"event\": \"failed\", \"name\": \"prints_a_failure_later\" }\n";
+    let line =
+        "{ \"type\": \"test\", \"event\": \"failed\", \"name\": \"prints_a_failure_later\" }\n";
     std::io::stdout().write_all(line.as_bytes()).unwrap();
     pause(2);
 }

@@ -1,9 +1,9 @@
-//! Tests that run cargo in their own workspace, as one does that tests a tool for tests: what it prints stands among the lines of
-//! the run. They are run alone.
+//! Tests that run cargo in their own workspace, as one does that tests a tool for tests: what it
+//! prints stands among the lines of the run. They are run alone.
 
 use std::process::Command;
 
-/// Whether `cargo test` of this package, which prints where this test does, ends well with these words.
+/// Whether `cargo test` of this package, which prints where this test does, ends well with words.
 fn cargo_test(words: &[&str]) -> bool {
     Command::new(env!("CARGO")).args(["test", "-p", "ends"]).args(words).status().unwrap().success()
 }
@@ -29,8 +29,9 @@ fn runs_its_own_binary() {
 #[test]
 #[ignore = "runs cargo"]
 fn runs_with_lines_of_events() {
+    let names = ["--message-format", "json-render-diagnostics", "--test", "exits_late"];
     let events = ["--", "-Z", "unstable-options", "--format", "json", "--report-time"];
-    assert!(!cargo_test(&[&["--message-format", "json-render-diagnostics", "--test", "exits_late"], &events[..]].concat()));
+    assert!(!cargo_test(&[&names[..], &events[..]].concat()));
 }
 
 #[test]

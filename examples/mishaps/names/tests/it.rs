@@ -16,7 +16,10 @@ fn leaves_a_line_open() {
 #[test]
 fn misst_größe() {
     println!("Größe: 2 µm, 😀");
-    panic!("Größe\n\u{1b}[31mrot\u{1b}[0m, \u{1b}]8;;file:///x\u{7}link\u{1b}]8;;\u{1b}\\ \u{0}\u{8}\u{fffe} <&>\"']]>");
+    panic!(
+        "Größe\n\u{1b}[31mrot\u{1b}[0m, \u{1b}]8;;file:///x\u{7}link\u{1b}]8;;\u{1b}\\ \
+         \u{0}\u{8}\u{fffe} <&>\"']]>"
+    );
 }
 
 #[test]

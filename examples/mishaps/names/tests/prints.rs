@@ -25,7 +25,8 @@ fn prints_a_start() {
 #[test]
 fn prints_a_suite() {
     let begin = "{ \"type\": \"suite\", \"event\": \"started\", \"test_count\": 2 }\n".to_string();
-    let end = "{ \"type\": \"suite\", \"event\": \"ok\", \"passed\": 2, \"failed\": 0, \"ignored\": 0 }\n";
+    let end = "{ \"type\": \"suite\", \"event\": \"ok\", \
+               \"passed\": 2, \"failed\": 0, \"ignored\": 0 }\n";
     let tests = ["inner_one", "inner_two"].map(|name| event("started", name) + &event("ok", name));
     write(&(begin + &tests.concat() + end));
 }

@@ -14,7 +14,7 @@ from rezovamy_runs.command_line import add_run, options_of, say
 from rezovamy_runs.commands import test as test_command
 from rezovamy_runs.faults.fault import Fault
 from rezovamy_runs.model import Summary
-from rezovamy_runs.runner import cargo_test
+from rezovamy_runs.runner import cargo_words
 from rezovamy_runs.runner import missing_tests
 from rezovamy_runs.runner import rerun_plan
 from rezovamy_runs.runner.rerun_plan import Plan
@@ -46,14 +46,15 @@ def add_options(parser: argparse.ArgumentParser) -> None:
 def run(words: argparse.Namespace) -> int:
     """Run the tests again, record them, and return their status; 0 where all have passed."""
     options = options_of(Options, words)
-    manifest = cargo_test.manifest_of(options.rest)
+    manifest = cargo_words.manifest_of(options.rest)
     runs = run_folder.here(manifest)
     path = runs.find(options.run)
     plan, before = plan_of(path), bundle.read_summary(path)
     first = root_bundle(plan, before)
     say_each([*rerun_plan.remarks(plan), *missing_tests.forget_targets(plan, manifest)])
     commands = [
-        cargo_test.cargo_words(chosen.words(options.rest)) for chosen in rerun_plan.selections(plan)
+        cargo_words.cargo_words(chosen.words(options.rest))
+        for chosen in rerun_plan.selections(plan)
     ]
     nameless = never_started(first)
     if not commands:

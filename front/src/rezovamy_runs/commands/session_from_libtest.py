@@ -25,11 +25,11 @@ from __future__ import annotations
 
 import argparse
 import dataclasses
-import subprocess
 import sys
 import uuid
 from collections.abc import Callable, Sequence
 
+from rezovamy_runs import cargo
 from rezovamy_runs.command_line import (
     command_line,
     input_stream,
@@ -38,12 +38,13 @@ from rezovamy_runs.command_line import (
     say,
     whole,
 )
+from rezovamy_runs.json_values import JsonObject
+from rezovamy_runs.runner.line_stream import LineStream
 from rezovamy_runs.runner.session_builder import SessionBuilder
 from rezovamy_runs.streams import cargo_metadata
 from rezovamy_runs.streams.clock import Clock, Source, arrival_clock, measured_clock
-from rezovamy_runs.streams.lines import LineStream
-from rezovamy_runs.streams.run_state import CancelReason, Messages
-from rezovamy_runs.streams.session_json import JsonObject, text
+from rezovamy_runs.streams.run_state import CancelReason, Console
+from rezovamy_runs.streams.session_json import text
 from rezovamy_runs.streams.session_writer import NEXTEST_VERSION, SessionOptions
 from rezovamy_runs.streams.targets import Targets
 from rezovamy_runs.streams.texts import without_surrogates
@@ -160,9 +161,9 @@ def read_words(words: Sequence[str]) -> tuple[Options, Targets]:
         parser.error("--package is for --manifest-path")
     try:
         if options.manifest_path:
-            packages = cargo_metadata.packages_of(options.manifest_path)
+            packages = cargo_metadata.packages_of(cargo.metadata(options.manifest_path))
             targets.add_packages(cargo_metadata.named(packages, options.package))
-    except (OSError, LookupError, subprocess.CalledProcessError) as error:
+    except cargo.FAULTS as error:
         parser.error(f"cargo can't be asked for {options.manifest_path}: {error}")
     return options, targets
 
@@ -174,7 +175,7 @@ def builder_of(
     source: Source | None = None,
 ) -> SessionBuilder:
     """Return what reads the lines."""
-    return SessionBuilder(options.clock(source), Messages(write, PROGRAM), targets)
+    return SessionBuilder(options.clock(source), Console(write, PROGRAM), targets)
 
 
 def finished(
@@ -184,10 +185,10 @@ def finished(
     run = builder.reader.run
     if cancel_reason:
         told = f"broken off by {cancel_reason}; the session is of what came before"
-        run.messages.warn(told)
+        run.console.warn(told)
     builder.finish(options.status, cancel_reason)
     if run.text_lines:
-        run.messages.warn(f"{run.text_lines} lines are no event of a run")
+        run.console.warn(f"{run.text_lines} lines are no event of a run")
     if options.build_error == "status" and builder.has_failed_build():
         raise NoSession("the build failed", NOT_BUILT)
     if not builder.has_events():

@@ -19,14 +19,15 @@ from rezovamy_runs.commands import page as page_command
 from rezovamy_runs.faults.fault import Fault
 from rezovamy_runs.page import document
 from rezovamy_runs.report.run_text import Printer
-from rezovamy_runs.runner import cargo_test
+from rezovamy_runs.runner import cargo_words
+from rezovamy_runs.runner.cargo_runs import PAUSE, CargoRuns
+from rezovamy_runs.runner.line_stream import LineStream
 from rezovamy_runs.runner.progress import Progress
 from rezovamy_runs.runner.rerun_plan import Plan
 from rezovamy_runs.runner.session_builder import Session, SessionBuilder
 from rezovamy_runs.store import run_folder
 from rezovamy_runs.streams.clock import Clock, arrival_clock, measured_clock
-from rezovamy_runs.streams.lines import LineStream
-from rezovamy_runs.streams.run_state import Messages
+from rezovamy_runs.streams.run_state import Console
 from rezovamy_runs.streams.texts import without_surrogates
 
 SUMMARY = "run `cargo test` with the words after --, and record the run"
@@ -98,11 +99,11 @@ def run(words: argparse.Namespace) -> int:
             2,
         )
     recorder.find()
-    runs = run_folder.here(cargo_test.manifest_of(options.rest))
+    runs = run_folder.here(cargo_words.manifest_of(options.rest))
     outputs = Outputs(runs, options.page, options.junit)
     outputs.prepare()
     if options.source is None:
-        commands = [cargo_test.cargo_words(options.rest)]
+        commands = [cargo_words.cargo_words(options.rest)]
         session = run_cargo(commands, options.profile, ["cargo", "test", *options.rest])
     else:
         session = read_lines(options, options.source)
@@ -151,7 +152,7 @@ class Following:
 
     def __init__(self, clock: Clock) -> None:
         self.progress = Progress()
-        self.builder = SessionBuilder(clock, Messages(self.progress.print_line, "rezovamy-runs"))
+        self.builder = SessionBuilder(clock, Console(self.progress.print_line, "rezovamy-runs"))
         self.progress.reader = self.builder.reader
 
     def read(self, lines: LineStream) -> None:
@@ -170,7 +171,7 @@ def run_cargo(
     """Return the session of runs of cargo, one after the other; of a rerun with its plan."""
     following = Following(arrival_clock())
     progress, builder = following.progress, following.builder
-    lines = cargo_test.CargoRuns(commands, progress.refresh, builder.reader.end_cargo_run)
+    lines = CargoRuns(commands, progress.refresh, builder.reader.end_cargo_run)
     following.read(lines)
     try:
         return builder.session(lines.status(), lines.cancel_reason, profile, cli_args, plan)
@@ -201,7 +202,7 @@ def read_lines(options: Options, source: str) -> Session:
     with opened(source) as stream:
         following = Following(clock_of(stream))
         progress, builder = following.progress, following.builder
-        lines = LineStream(stream.fileno(), cargo_test.PAUSE, progress.refresh)
+        lines = LineStream(stream.fileno(), PAUSE, progress.refresh)
         try:
             following.read(lines)
         except IsADirectoryError as error:

@@ -12,12 +12,13 @@ import pathlib
 import re
 from collections.abc import Collection, Iterator
 
+from rezovamy_runs import cargo
 from rezovamy_runs.bundles import bundle
 from rezovamy_runs.faults.fault import Fault
 from rezovamy_runs.runner import rerun_plan
+from rezovamy_runs.runner.cargo_words import split_words
 from rezovamy_runs.runner.rerun_plan import Plan
-from rezovamy_runs.streams import cargo_metadata
-from rezovamy_runs.streams.cargo_metadata import Package
+from rezovamy_runs.streams.cargo_metadata import Package, packages_of
 from rezovamy_runs.streams.run_state import RunState
 from rezovamy_runs.streams.targets import LIBRARIES, doctests_of, own_names, target_of
 from rezovamy_runs.streams.test_runs import BinaryRun
@@ -39,7 +40,7 @@ BUILT_MARK = ".rustc_info.json"
 
 def build_words(words: list[str]) -> list[tuple[str, ...]]:
     """Return those of the words of `cargo test` that decide what is built."""
-    own = words[: words.index("--")] if "--" in words else words
+    own, _ = split_words(words)
     found: list[tuple[str, ...]] = []
     for place, word in enumerate(own):
         option = next((option for option in VALUES if word.startswith(option)), None)
@@ -68,8 +69,8 @@ def forget_targets(plan: Plan, manifest: str | None) -> list[str]:
     if not any(map(rerun_plan.target_words, plan.run)):
         return []
     try:
-        packages = cargo_metadata.packages_of(manifest)
-    except cargo_metadata.METADATA_FAULTS:
+        packages = packages_of(cargo.metadata(manifest))
+    except cargo.FAULTS:
         return []
     ids = {package.name: ids_of(package) for package in packages}
     found = []
@@ -98,11 +99,11 @@ def forget_tests(plan: Plan, state: RunState) -> None:
         there = {test.name for binary in runs for test in binary.tests()}
         lacking = [name for name in names if name not in there]
         if lacking and runs and all(binary.is_complete() for binary in runs):
-            gone = Lacking(plan, state, runs[-1], lacking).gone()
+            gone = MissingTests(plan, state, runs[-1], lacking).gone()
             plan.forget(binary_id, gone)
 
 
-class Lacking:
+class MissingTests:
     """The tests of a plan that a run of their binary lacks."""
 
     def __init__(

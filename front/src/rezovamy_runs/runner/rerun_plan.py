@@ -8,7 +8,8 @@ import os
 import re
 from collections.abc import Collection, Mapping, Sequence
 
-from rezovamy_runs.streams.session_json import JsonObject
+from rezovamy_runs.json_values import JsonObject, members_of
+from rezovamy_runs.runner.cargo_words import split_words
 from rezovamy_runs.streams.targets import own_names
 
 LINE = re.compile(r"(run|skip|gone) ([^ ]*) (.*)")
@@ -64,10 +65,10 @@ def read(text: str) -> Plan:
     """Return the plan that a text of `rerun` is."""
     first, *lines = text.removesuffix("\n").split("\n")
     try:
-        info = json.loads(first)
+        info = members_of(json.loads(first)).values
     except (ValueError, RecursionError):
-        info = None
-    if not isinstance(info, dict) or "parent-run-id" not in info:
+        info = {}
+    if "parent-run-id" not in info:
         raise NoPlan("line 1 has no rerun information")
     plan = Plan(info)
     tests = {"run": plan.run, "skip": plan.skip, "gone": plan.gone}
@@ -94,9 +95,9 @@ class Selection:
 
         After a word `--` are those for the binaries.
         """
-        place = given.index("--") if "--" in given else len(given)
-        after = [*given[place + 1 :], *self.tests]
-        return [*given[:place], *self.target, *(["--", *after] if after else [])]
+        own, of_tests = split_words(given)
+        after = [*of_tests, *self.tests]
+        return [*own, *self.target, *(["--", *after] if after else [])]
 
 
 def target_words(binary_id: str) -> list[str] | None:
@@ -178,21 +179,26 @@ def first_of(names: Sequence[str]) -> str:
 
 def remarks(plan: Plan) -> list[str]:
     """Return what the runs of cargo don't do as they should, a line each."""
-    found = []
-    for binary_id, names in plan.run.items():
-        if target_words(binary_id) is None:
-            nameless = "cargo has no word for it alone; run all tests again"
-            found.append(f"{binary_id} {names[0]}: {nameless}")
-        elif "::doc/" in binary_id and plan.skip.get(binary_id):
-            whole = "cargo can't be given the names of doctests, so that all of them run"
-            found.append(f"{binary_id}: {whole}")
-        elif runs_whole(binary_id, names) and plan.skip.get(binary_id):
-            whole = "it may have failed by its own name, so that all of its tests run"
-            found.append(f"{binary_id}: {whole}")
-    for binary_id, names in gone_tests(plan).items():
-        lacks = "the run's test list lacks it, so that it isn't run"
-        found.append(f"{binary_id} {first_of(names)}: {lacks}")
-    return found
+    found = [remark_of(plan, binary_id, names) for binary_id, names in plan.run.items()]
+    lacks = "the run's test list lacks it, so that it isn't run"
+    gone = gone_tests(plan).items()
+    return [
+        *(remark for remark in found if remark is not None),
+        *(f"{binary_id} {first_of(names)}: {lacks}" for binary_id, names in gone),
+    ]
+
+
+def remark_of(plan: Plan, binary_id: str, names: Sequence[str]) -> str | None:
+    """Return what the run of a binary doesn't do as it should; None where it does."""
+    if target_words(binary_id) is None:
+        return f"{binary_id} {names[0]}: cargo has no word for it alone; run all tests again"
+    if not plan.skip.get(binary_id):
+        return None
+    if "::doc/" in binary_id:
+        return f"{binary_id}: cargo can't be given the names of doctests, so that all of them run"
+    if runs_whole(binary_id, names):
+        return f"{binary_id}: it may have failed by its own name, so that all of its tests run"
+    return None
 
 
 def gone_tests(plan: Plan) -> TestNames:

@@ -7,13 +7,14 @@ import hashlib
 import uuid
 
 from rezovamy_runs.faults.fault import Fault
+from rezovamy_runs.json_values import JsonObject
 from rezovamy_runs.runner import missing_tests
 from rezovamy_runs.runner.rerun_plan import Plan
 from rezovamy_runs.streams import verdicts
 from rezovamy_runs.streams.clock import Clock
 from rezovamy_runs.streams.reader import Reader
-from rezovamy_runs.streams.run_state import CancelReason, Messages
-from rezovamy_runs.streams.session_json import JsonObject, text
+from rezovamy_runs.streams.run_state import CancelReason, Console
+from rezovamy_runs.streams.session_json import text
 from rezovamy_runs.streams.session_writer import (
     CANCELLED_STATUS,
     NEXTEST_FAILED,
@@ -48,8 +49,8 @@ class SessionBuilder:
     Where the instants aren't those at which lines come, the same lines give the same run id.
     """
 
-    def __init__(self, clock: Clock, output: Messages, targets: Targets | None = None) -> None:
-        self.reader = Reader(clock, output, targets or Targets())
+    def __init__(self, clock: Clock, console: Console, targets: Targets | None = None) -> None:
+        self.reader = Reader(clock, console, targets or Targets())
         self._digest = hashlib.sha256()
         self._is_repeatable = clock.source is None
 

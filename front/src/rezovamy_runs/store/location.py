@@ -3,12 +3,11 @@
 
 from __future__ import annotations
 
-import json
 import os
 import pathlib
 import re
-import subprocess
 
+from rezovamy_runs import cargo
 from rezovamy_runs.faults.fault import Fault
 
 FOLDER = "rezovamy-runs"
@@ -19,12 +18,9 @@ WORKSPACE = re.compile(r"^\s*\[workspace", re.M)
 
 def target_of_cargo(manifest: str | None = None) -> pathlib.Path | None:
     """Return the target directory of the workspace as cargo says it, None if it can't be asked."""
-    words = ["cargo", "metadata", "--no-deps", "--offline", "--format-version", "1"]
-    words += ["--manifest-path", manifest] if manifest else []
     try:
-        done = subprocess.run(words, capture_output=True, check=True, stdin=subprocess.DEVNULL)
-        return pathlib.Path(json.loads(done.stdout)["target_directory"])
-    except (OSError, subprocess.CalledProcessError, ValueError, KeyError):
+        return pathlib.Path(cargo.metadata(manifest).text("target_directory"))
+    except cargo.FAULTS:
         return None
 
 

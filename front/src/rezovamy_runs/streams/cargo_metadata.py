@@ -3,17 +3,8 @@
 from __future__ import annotations
 
 import dataclasses
-import json
-import subprocess
-from collections.abc import Iterable
 
-METADATA_FAULTS = (
-    OSError,
-    ValueError,
-    LookupError,
-    TypeError,
-    subprocess.CalledProcessError,
-)
+from rezovamy_runs.json_values import Members
 
 
 @dataclasses.dataclass(frozen=True)
@@ -34,32 +25,25 @@ class Package:
     targets: tuple[PackageTarget, ...]
 
 
-def packages_of(manifest_path: str | None = None) -> list[Package]:
-    """Ask cargo for the packages of a manifest, or of that of the current folder."""
-    words = ["cargo", "metadata", "--no-deps", "--offline", "--format-version", "1"]
-    words += ["--manifest-path", manifest_path] if manifest_path else []
-    printed = subprocess.run(words, capture_output=True, check=True).stdout
-    return [package_of(value) for value in json.loads(printed)["packages"]]
+def packages_of(metadata: Members) -> list[Package]:
+    """Return the packages that metadata have; ValueError or LookupError where these are none."""
+    return list(map(package_of, metadata.inner_list("packages")))
 
 
-def package_of(value: dict[str, object]) -> Package:
+def package_of(package: Members) -> Package:
     """Return a package as cargo's JSON describes it."""
-    targets = value["targets"]
-    if not isinstance(targets, Iterable):
-        raise TypeError("a package has no targets")
     return Package(
-        str(value["name"]),
-        str(value.get("manifest_path", "")),
-        tuple(map(target_of_package, targets)),
+        package.text("name"),
+        package.optional_text("manifest_path") or "",
+        tuple(map(target_of_package, package.inner_list("targets"))),
     )
 
 
-def target_of_package(value: dict[str, object]) -> PackageTarget:
+def target_of_package(target: Members) -> PackageTarget:
     """Return a target as cargo's JSON describes it."""
-    kinds = value["kind"]
-    if not isinstance(kinds, list):
-        raise TypeError("a target has no kind")
-    return PackageTarget(str(value["name"]), str(kinds[0]), str(value.get("src_path", "")))
+    return PackageTarget(
+        target.text("name"), target.texts("kind")[0], target.optional_text("src_path") or ""
+    )
 
 
 def named(packages: list[Package], name: str | None) -> list[Package]:

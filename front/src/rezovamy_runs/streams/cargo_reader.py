@@ -63,7 +63,7 @@ class CargoReader:
         elif not self._read_cause(line):
             return False
         run.is_printed = True
-        run.messages.write(printable(line.rstrip()))
+        run.console.write(printable(line.rstrip()))
         return True
 
     def _failed_binary(self, hint: str) -> BinaryRun | None:

@@ -9,6 +9,7 @@ import dataclasses
 import json
 from typing import Literal, Union
 
+from rezovamy_runs.json_values import JsonObject
 from rezovamy_runs.streams.texts import without_surrogates
 
 SECOND = 10**9
@@ -23,7 +24,6 @@ CARGO_REASONS = {
     "timing-info",
 }
 
-JsonObject = dict[str, object]
 EventKind = Literal["started", "ok", "failed", "ignored", "timeout"]
 EVENT_KINDS: dict[object, EventKind] = {
     "started": "started",
@@ -140,8 +140,14 @@ def suite_message(value: JsonObject) -> SuiteStart | SuiteEnd | None:
         return SuiteStart(count, "shuffle_seed" not in value, binary)
     if value.get("event") not in ("ok", "failed"):
         return None
-    names = (field.name for field in dataclasses.fields(SuiteCounts))
-    return SuiteEnd(SuiteCounts(*(whole(value.get(name)) for name in names)), binary)
+    counts = SuiteCounts(
+        passed=whole(value.get("passed")),
+        failed=whole(value.get("failed")),
+        ignored=whole(value.get("ignored")),
+        measured=whole(value.get("measured")),
+        filtered_out=whole(value.get("filtered_out")),
+    )
+    return SuiteEnd(counts, binary)
 
 
 def nextest_binary(value: object) -> NextestBinary | None:
@@ -175,8 +181,7 @@ def test_event(value: JsonObject) -> TestEvent | None:
 def cargo_message(value: JsonObject) -> Artifact | CargoMessage:
     """Return what a line of cargo's says was built."""
     target, package = value.get("target"), text_or_none(value.get("package_id"))
-    is_artifact = value["reason"] == "compiler-artifact" and isinstance(target, dict)
-    if not is_artifact or not isinstance(target, dict) or package is None:
+    if value["reason"] != "compiler-artifact" or not isinstance(target, dict) or package is None:
         return CargoMessage()
     name, kinds, profile = (
         text_or_none(target.get("name")),

@@ -11,7 +11,8 @@ import dataclasses
 import json
 import re
 
-from rezovamy_runs.streams.messages import JsonObject, TestEvent, test_event
+from rezovamy_runs.json_values import JsonObject
+from rezovamy_runs.streams.messages import TestEvent, test_event
 
 TEXT = r'"(?:[^"\\]|\\.)*"'
 HEAD = re.compile(

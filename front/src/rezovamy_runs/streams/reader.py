@@ -15,12 +15,13 @@ from rezovamy_runs.streams.event_reader import EventReader
 from rezovamy_runs.streams.messages import (
     Artifact,
     CargoMessage,
+    Report,
     SuiteEnd,
     SuiteStart,
     TestEvent,
 )
 from rezovamy_runs.streams.partial_events import PartialEvent, partial_event
-from rezovamy_runs.streams.run_state import CancelReason, Messages, RunState
+from rezovamy_runs.streams.run_state import CancelReason, Console, RunState
 from rezovamy_runs.streams.targets import Targets
 from rezovamy_runs.streams.test_runs import FAILED, PASSED, BinaryRun, TestRun
 from rezovamy_runs.streams.timeline import Timeline
@@ -43,8 +44,8 @@ class OpenEvent:
 class Reader:
     """Reads the lines of a stream. `run` is what they have told so far."""
 
-    def __init__(self, clock: Clock, output: Messages, targets: Targets) -> None:
-        self.run = RunState(Timeline(clock), targets, output)
+    def __init__(self, clock: Clock, console: Console, targets: Targets) -> None:
+        self.run = RunState(Timeline(clock), targets, console)
         self.sequence = BinarySequence(self.run)
         self._cargo = CargoReader(self.run, self.sequence)
         self._events = EventReader(self.run, self.sequence)
@@ -94,7 +95,7 @@ class Reader:
                 return self._events.read_test(message)
             case Artifact() | CargoMessage():
                 return self._read_cargo_message(message)
-            case messages.Report():
+            case Report():
                 return last is not None and bool(last.suites)
         return False
 
@@ -140,9 +141,10 @@ class Reader:
     def _give_up_open_event(self) -> None:
         """Let what came after the begin of a test's end be text, where its rest never came."""
         open_event, self._open = self._open, None
-        for text in open_event.event.more if open_event else []:
-            if open_event:
-                open_event.binary.text.append(text)
+        if open_event is None:
+            return
+        for text in open_event.event.more:
+            open_event.binary.text.append(text)
             self.run.print_text(text)
 
     def end_cargo_run(self, status: int) -> None:
@@ -186,4 +188,4 @@ class Reader:
         if unseen:
             missing.append(f"announced tests that never started: {unseen}")
         if missing:
-            self.run.messages.warn(f"{binary.id}: {', '.join(missing)}")
+            self.run.console.warn(f"{binary.id}: {', '.join(missing)}")

@@ -22,7 +22,7 @@ CancelReason = Literal["interrupt", "signal"]
 
 
 @dataclasses.dataclass(frozen=True)
-class Messages:
+class Console:
     """Where texts of a run and warnings go, these after the name of the program that reads it."""
 
     write: Callable[[str], None]
@@ -54,7 +54,7 @@ class RunState:
 
     timeline: Timeline
     targets: Targets
-    messages: Messages
+    console: Console
     binaries: list[BinaryRun] = dataclasses.field(default_factory=list)
     build: BuildLog = dataclasses.field(default_factory=BuildLog)
     never_ran: list[Target] = dataclasses.field(default_factory=list)
@@ -107,14 +107,14 @@ class RunState:
 
     def warn(self, what: str) -> None:
         """Print a warning of the line."""
-        self.messages.warn(f"line {self.timeline.line}: {what}")
+        self.console.warn(f"line {self.timeline.line}: {what}")
 
     def print_text(self, text: str) -> None:
         """Print a line that is no event."""
         self.is_printed = True
         if text.strip():
             self.text_lines += 1
-            self.messages.write(printable(text.rstrip("\r\n")))
+            self.console.write(printable(text.rstrip("\r\n")))
 
     def keep_text(self, text: str) -> None:
         """Keep a text that is no event: of the binary that runs, or of what else prints."""
@@ -127,4 +127,4 @@ class RunState:
         """Keep and print a text that has left its line open, so that an event stands after it."""
         self.keep_text(text)
         if text.strip():
-            self.messages.write(printable(text))
+            self.console.write(printable(text))

@@ -4,7 +4,8 @@ from __future__ import annotations
 
 import json
 
-RUN_ID = "550e8400-e29b-41d4-a716-446655440000"
+from rezovamy_runs.json_values import JsonObject
+
 COUNTS = [
     "initial-run-count",
     "finished-count",
@@ -26,8 +27,12 @@ COUNTS = [
     "exec-failed",
     "skipped",
 ]
-
-JsonObject = dict[str, object]
+# What the heads of all sessions that are made have in common.
+HEAD: JsonObject = {
+    "cargo-metadata": "{}",
+    "record-opts": {"run-mode": "test"},
+    "build-scope": {"build-kind": "cargo", "scope": {}},
+}
 
 
 def text(value: object) -> str:
@@ -48,24 +53,6 @@ def span(seconds: int, nanoseconds: int = 0) -> dict[str, int]:
 def stats(count: int) -> dict[str, int]:
     """Return the numbers of a run of so many tests, none of which has ended."""
     return {**dict.fromkeys(COUNTS, 0), "initial-run-count": count}
-
-
-def head(count: int, binaries: int = 4) -> JsonObject:
-    """Return the head of a session of so many tests, which stand in so many binaries by turns."""
-    suites: dict[str, list[str]] = {}
-    for i in range(count):
-        suites.setdefault(f"bin-{i % binaries}", []).append(f"t{i}")
-    return {
-        "run-id": RUN_ID,
-        "nextest-version": "0.9.111",
-        "started-at": instant(1000),
-        "last-written-at": instant(1011),
-        "status": {"status": "incomplete"},
-        "cargo-metadata": "{}",
-        "test-list": {"suites": suites},
-        "record-opts": {"run-mode": "test"},
-        "build-scope": {"build-kind": "cargo", "scope": {}},
-    }
 
 
 def event(kind: str, at: dict[str, int], **fields: object) -> JsonObject:

@@ -6,16 +6,10 @@ import dataclasses
 import heapq
 from typing import Literal, NamedTuple
 
+from rezovamy_runs.json_values import JsonObject
 from rezovamy_runs.streams.messages import SECOND
 from rezovamy_runs.streams.run_state import CancelReason, RunState
-from rezovamy_runs.streams.session_json import (
-    JsonObject,
-    event,
-    head,
-    instant,
-    span,
-    stats,
-)
+from rezovamy_runs.streams.session_json import HEAD, event, instant, span, stats
 from rezovamy_runs.streams.test_runs import Attempt, Mark, TestRun
 
 NEXTEST_VERSION = "0.9.111"
@@ -350,7 +344,7 @@ def session_lines(run: RunState, options: SessionOptions) -> SessionLines:
     events += writer.end_of_run(end, run_id)
     exit_code, suites = exit_code_of(run, writer, options.exit_code), suites_of(run)
     made: JsonObject = {
-        **head(0),
+        **HEAD,
         "run-id": run_id,
         "nextest-version": options.nextest_version,
         "status": status_of_run(writer, exit_code),
