@@ -11,19 +11,10 @@
 set -eu
 
 STARTERS="rezovamy-runs session_from_libtest junit_xml"
-BUILD="build it with (cd crates/rezovamy && rt run), or name it in REZOVAMY"
+EXAMPLE="front/install.sh ~/.local"
 
-fault() {
-    echo "install.sh: $1" >&2
-    exit "${2:-1}"
-}
-
-if [ $# -ne 1 ]; then fault "a folder is wanted, as in front/install.sh ~/.local" 2; fi
-case $1 in "" | -*) fault "'$1' is no folder: front/install.sh ~/.local" 2 ;; esac
-top=$(cd "$(dirname "$0")/.." && pwd -P)
-program=${REZOVAMY:-$top/crates/rezovamy/out/rezovamy}
-case $program in /*) ;; *) program=$PWD/$program ;; esac
-if [ ! -f "$program" ] || [ ! -x "$program" ]; then fault "no program is at $program: $BUILD"; fi
+# shellcheck source-path=SCRIPTDIR source=built_program.sh
+. "$(dirname "$0")/built_program.sh"
 if ! python3 -c 'import sys; sys.exit(sys.version_info < (3, 11))' 2>/dev/null; then
     fault "Python 3.11 or newer is wanted: put it on the path as python3"
 fi

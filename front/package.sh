@@ -10,21 +10,12 @@
 # in this clone. The same files give the same archive.
 set -eu
 
-BUILD="build it with (cd crates/rezovamy && rt run), or name it in REZOVAMY"
 LIBRARY='s/^[[:space:]]*\([^ /]*\.so[^ ]*\) =>.*/\1/p'
 ADVICE="make room, or name another folder"
+EXAMPLE="front/package.sh /tmp"
 
-fault() {
-    echo "package.sh: $1" >&2
-    exit "${2:-1}"
-}
-
-if [ $# -ne 1 ]; then fault "a folder is wanted, as in front/package.sh /tmp" 2; fi
-case $1 in "" | -*) fault "'$1' is no folder: front/package.sh /tmp" 2 ;; esac
-top=$(cd "$(dirname "$0")/.." && pwd -P)
-program=${REZOVAMY:-$top/crates/rezovamy/out/rezovamy}
-case $program in /*) ;; *) program=$PWD/$program ;; esac
-if [ ! -f "$program" ] || [ ! -x "$program" ]; then fault "no program is at $program: $BUILD"; fi
+# shellcheck source-path=SCRIPTDIR source=built_program.sh
+. "$(dirname "$0")/built_program.sh"
 version=$("$program" --version) ||
     fault "$program doesn't run here: build it anew, or name another in REZOVAMY"
 version=$(printf '%s\n' "$version" | sed -n 's/^rezovamy //p')
