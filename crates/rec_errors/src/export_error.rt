@@ -14,7 +14,7 @@ use thiserror::Error;
 /// first event on. Want of memory may come at any time before the first byte is written.
 ///
 /// `line_number` is the number of a line of the session, and `event` that of an event, both from 1.
-/// `docs/CLI.md#of-record-and-sample-and-of-the-words` has the line and the status of each error.
+/// `docs/CLI.md#lines-of-record-and-sample` has the line and the status of each error.
 #[derive(Drop, Error)]
 pub enum RecordExportError {
     /// The source failed.

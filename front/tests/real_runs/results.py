@@ -138,14 +138,15 @@ def try_front_end(place, target):
 
 
 def try_by_hand(place, target):
-    """The lines of docs/CLI.md that call each program."""
+    """The lines of docs/FRONT_END.md that call each program."""
     made = place / "made"
     made.mkdir()
-    try_block("docs/CLI.md", ["session_from_libtest.py", "record"], place, target, made, 101)
+    try_block("docs/FRONT_END.md", ["session_from_libtest", "record"], place, target, made, 101)
     demand(
-        json.loads((made / "run.trace.json").read_text())["traceEvents"], "docs/CLI.md: no trace"
+        json.loads((made / "run.trace.json").read_text())["traceEvents"],
+        "docs/FRONT_END.md: no trace",
     )
-    check_junit("docs/CLI.md", made / "junit/junit.xml")
+    check_junit("docs/FRONT_END.md", made / "junit/junit.xml")
 
 
 def check_junit(page, path):

@@ -1,4 +1,4 @@
-"""Runs `cargo test` so that its test binaries print lines of JSON, which docs/CLI.md describes."""
+"""Runs `cargo test` so that its test binaries print lines of JSON (see docs/FRONT_END.md)."""
 
 from __future__ import annotations
 
