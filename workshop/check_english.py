@@ -28,7 +28,6 @@ KEPT: Mapping[str, tuple[int, int]] = {
     "docs/ARCHITECTURE.md": (43, 32),
     "docs/CONTRIBUTING.md": (33, 12),
     "docs/PROOFS.md": (159, 207),
-    "docs/PROVING.md": (124, 85),
 }
 
 CODE_SPAN = re.compile(r"(`+)(?!`).+?(?<!`)\1(?!`)", re.S)
