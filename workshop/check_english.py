@@ -25,7 +25,7 @@ LONGEST_SENTENCE = 25
 # How many long sentences and how many obscure words a page may have.
 KEPT: Mapping[str, tuple[int, int]] = {
     "README.md": (7, 4),
-    "docs/PROOFS.md": (159, 207),
+    "docs/PROOFS.md": (133, 192),
 }
 
 CODE_SPAN = re.compile(r"(`+)(?!`).+?(?<!`)\1(?!`)", re.S)
