@@ -43,7 +43,8 @@ stage() {
         cp "$program" "$aside" &&
         chmod 755 "$aside" &&
         cp "$top/LICENSE-MIT" "$top/LICENSE-APACHE" "$prefix/share/licenses/rezovamy/" &&
-        cp "$top/docs/CLI.md" "$top/docs/FORMATS.md" "$prefix/share/doc/rezovamy/" &&
+        cp "$top/docs/CLI.md" "$top/docs/FORMATS.md" "$top/docs/FRONT_END.md" \
+            "$prefix/share/doc/rezovamy/" &&
         write_manuals
 }
 

@@ -103,7 +103,9 @@ def test_the_next_lines_show_the_run(clone: Clone) -> None:
 
 def test_the_lines_that_call_each_program(clone: Clone) -> None:
     """They leave all their files, and end as cargo does."""
-    clone.run(block_of("docs/CLI.md", "front/session_from_libtest", "rezovamy record"), ".", 101)
+    clone.run(
+        block_of("docs/FRONT_END.md", "front/session_from_libtest", "rezovamy record"), ".", 101
+    )
     for name in ("run.session", "run.bundle"):
         assert (clone.made / name).stat().st_size
     assert json.loads((clone.made / "run.trace.json").read_bytes())["traceEvents"]

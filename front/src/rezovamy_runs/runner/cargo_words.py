@@ -1,6 +1,6 @@
 """The words of `cargo test` with which its test binaries print lines of JSON.
 
-docs/CLI.md describes these.
+docs/FRONT_END.md describes these.
 """
 
 from __future__ import annotations
