@@ -3,6 +3,7 @@
 from __future__ import annotations
 
 import pathlib
+import re
 from collections.abc import Callable, Mapping
 
 import pytest
@@ -307,3 +308,8 @@ def test_newer_versions(refused: Refused, data: bytes, said: str) -> None:
 )
 def test_lines_that_are_no_events(refused: Refused, line: object) -> None:
     assert "record the run again" in refused(made.bundle(line))
+
+
+def test_a_missing_member_is_named(refused: Refused) -> None:
+    said = refused(made.bundle({"kind": "test-started"}))
+    assert re.search("can be read: no member '[a-z-]+' is there; record the run again", said)

@@ -13,6 +13,7 @@ from rezovamy_runs.bundles.events import Event, RunFinished, RunStarted, event_o
 from rezovamy_runs.bundles.manifest import Manifest, manifest_of
 from rezovamy_runs.bundles.run_builder import Load, RunBuilder
 from rezovamy_runs.faults.fault import Fault
+from rezovamy_runs.json_values import WrongMember
 from rezovamy_runs.model import Counts, Run, Status, Summary, run_of
 
 MANIFEST, LOG, STORE = b"manifest.json", b"run.log.zst", b"store.zip"
@@ -149,7 +150,7 @@ def read(path: PathLike, ask: Callable[[Bundle], Answer]) -> Answer:
     except OSError as error:
         said = f"can't be read: {error.strerror or error}; give access, or remove it"
         raise Fault(f"{path} {said}") from error
-    except Unreadable as error:
+    except (Unreadable, WrongMember) as error:
         said = f"is no bundle that can be read: {error}; {remedy(path)}"
         raise Fault(f"{path} {said}") from error
     except (AttributeError, KeyError, TypeError, ValueError, RecursionError) as error:
