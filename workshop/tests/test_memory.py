@@ -5,7 +5,6 @@ It is within three times its input, beside its own, for each command and each sh
 
 from __future__ import annotations
 
-import os
 import subprocess
 import sys
 from pathlib import Path
@@ -39,17 +38,27 @@ READERS = (
 )
 
 
+# Runs the program of its words, and prints the most bytes that it held. Until the program is loaded
+# the process that starts it counts as the program. So that one has to be small; pytest isn't.
+MEASURE = """
+import os, sys
+to_nothing = [(os.POSIX_SPAWN_OPEN, 1, os.devnull, os.O_WRONLY, 0)]
+started = os.posix_spawn(sys.argv[1], sys.argv[1:], os.environ, file_actions=to_nothing)
+_, status, usage = os.wait4(started, 0)
+print(usage.ru_maxrss * 1024)
+sys.exit(os.waitstatus_to_exitcode(status))
+"""
+
+
 def most_held(program: Path, words: str, source: Path) -> int:
     """Return the most bytes that the program held, with this file as standard input."""
+    command = [sys.executable, "-S", "-c", MEASURE, str(program), *words.split()]
     with source.open("rb") as given:
-        done = subprocess.Popen(
-            [program, *words.split()], stdin=given, stdout=subprocess.DEVNULL, cwd=source.parent
+        done = subprocess.run(
+            command, stdin=given, stdout=subprocess.PIPE, cwd=source.parent, check=False
         )
-        _, status, usage = os.wait4(done.pid, 0)
-    done.returncode = os.waitstatus_to_exitcode(status)
     assert done.returncode == 0, words
-    kilobytes: int = usage.ru_maxrss
-    return kilobytes * 1024
+    return int(done.stdout)
 
 
 @pytest.mark.program
