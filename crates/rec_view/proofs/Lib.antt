@@ -1,0 +1,11 @@
+pub mod Tests
+pub mod Orders
+pub mod Slices
+pub mod Open
+pub mod Attempts
+pub mod Rows
+pub mod Extents
+pub mod Walks
+pub mod Stretches
+pub mod Examples
+pub mod Passing

@@ -1,0 +1,12 @@
+pub mod Verdicts
+pub mod Counts
+pub mod Acts
+pub mod Tests
+pub mod Attempts
+pub mod Extents
+pub mod Slices
+pub mod Seen
+pub mod Open
+pub mod Rows
+pub mod Walked
+pub mod Laws

@@ -1,0 +1,81 @@
+//! Laws of views, as clauses of functions that do nothing.
+ghost use Rattle.std.specs.Prelude.{◌≡◌, ◌↔◌, ◌≤◌, ◌<◌, ℕ, List, [], ◌∷◌, ◌++◌, None};
+ghost use Rattle.std.specs.Prelude.{length, map, reverse};
+ghost use Rattle.rec_events.specs.declared.instances.OwnedTestInstanceId.{OwnedTestInstanceId};
+ghost use Rattle.rec_events.specs.declared.statuses.ExecutionStatuses.{ExecutionStatuses};
+ghost use Rattle.rec_rerun.specs.Acts.{pass};
+ghost use Rattle.rec_spans.specs.declared.settings.ChromeTraceGroupBy as group_by;
+ghost use Rattle.rec_spans.specs.declared.spans.Span as spans;
+ghost use Rattle.rec_spans.specs.Kinds as kinds;
+ghost use Rattle.rec_spans.specs.Past.{TraceInput};
+ghost use Rattle.rec_spans.specs.Plain.{PlainEvent};
+ghost use Rattle.rec_spans.specs.Positions.{Has, IsSpan, IsStretch};
+ghost use Rattle.rec_spans.specs.Refusals.{events_refusal};
+ghost use Rattle.rec_view.specs.Acts as acts;
+ghost use Rattle.rec_view.specs.Extents.{Lasts};
+ghost use Rattle.rec_view.specs.Laws.{InOrder, SlicesAddUp};
+ghost use Rattle.rec_view.specs.Open.{OneOpen, is_open, verdict_after};
+ghost use Rattle.rec_view.specs.Slices.{slices};
+ghost use Rattle.rec_view.specs.Tests.{Place, opened, place, tests, verdict};
+ghost use Rattle.rec_view.specs.Verdicts.{is_passing, verdict_of_end};
+
+use rec_events::OutputSpec;
+use rec_slots::laws::gaps_add_up;
+
+/// States that an event more opens its tests behind those of the events before, and changes none
+/// of them.
+pub fn one_more()
+    ensures { (before : List acts.Act) (act : acts.Act)
+        → tests (before ++ act ∷ [])
+        ≡ tests before ++ map (place (length before)) (opened (reverse before) act) }
+{}
+
+/// States that each test of a history stands once, in the order of the events that open them.
+pub fn each_once()
+    ensures { (all : List acts.Act) → InOrder (tests all) }
+{}
+
+/// States of any two positions of any history that the slices between them add up to the time
+/// outside pauses, which is the later instant less the earlier less the time in pauses.
+pub fn slices_add_up()
+    ensures { (history : List TraceInput) (a z : ℕ) → a ≤ z → SlicesAddUp history a z }
+{
+    gaps_add_up();
+}
+
+/// States that at most one test of a name is open after any history, and that one is exactly where
+/// the last start or end of the name is a start.
+pub fn one_open()
+    ensures { (all : List acts.Act) (t : OwnedTestInstanceId) → OneOpen all t }
+{}
+
+/// States what an event more makes of the verdict of a test: it changes only that of one that is
+/// open, and that the event starts anew or ends.
+pub fn verdict_more()
+    ensures { (before : List acts.Act) (act : acts.Act) (p : Place) → p.at < length before
+        → verdict (before ++ act ∷ []) p
+        ≡ verdict_after act (is_open before p) p (verdict before p) }
+{}
+
+/// States of a history of events that has a trace that what starts lasts as its span does: up to
+/// the first stop of its key.
+pub fn lasts_as_drawn()
+    ensures { (group : group_by.ChromeTraceGroupBy) (events : List PlainEvent)
+        → events_refusal group events ≡ None
+        → (a z : ℕ) (s : spans.Span)
+        → Lasts (kinds.history group events) a z s ↔ IsSpan (kinds.history group events) a z s }
+{}
+
+/// States that the slices between two positions of any history are exactly the longest stretches
+/// outside pauses.
+pub fn slices_are_stretches()
+    ensures { (history : List TraceInput) (a z x y : ℕ) → a ≤ z → z ≤ length history
+        → Has (slices history a z) (x, y) ↔ IsStretch history a z x y }
+{}
+
+/// States that a test that ends counts as passed for a rerun exactly where its verdict is passed or
+/// flaky.
+pub fn as_for_a_rerun<S: OutputSpec>()
+    ensures { (s : ExecutionStatuses S S.ChildOutput)
+        → pass s ≡ is_passing (verdict_of_end s) }
+{}

@@ -1,0 +1,16 @@
+//! What a viewer wants to know of the events of a run: its tests, what became of each, and their
+//! attempts.
+#![tactic(auto)]
+
+mod acts;
+mod counts;
+pub mod laws;
+mod test_views;
+mod verdicts;
+mod view;
+mod walk;
+
+pub use counts::Counts;
+pub use test_views::{Attempt, TestView};
+pub use verdicts::Verdict;
+pub use view::{RunView, view_events};
