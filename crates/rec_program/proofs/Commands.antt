@@ -1,17 +1,14 @@
 -- What the status of a command says.
-use Rattle.std.proofs.Common.{◌≡◌, ◌⊎◌, inl, inr, ℕ, ◌≤◌, ◌<◌, lit<, List, length, nat_lt, Option}
+use Rattle.std.proofs.Common.{◌≡◌, ◌⊎◌, inl, inr, ℕ, ◌≤◌, ◌<◌, List, length, nat_lt, Option}
 use Rattle.std.proofs.Common.{None, Some, map, Result, Ok, Err, refl, sym, ap, subst, ◌∙◌, arith}
 use Rattle.std.specs.Io.KnownBytes.{Appends}
 use Rattle.std.specs.Option.{option_map, option_or}
 use Rattle.semver.specs.Parse.{Parts}
 use Rattle.rec_container.proofs.Results.{Ok-injective, then_ok, unless_ok}
-use Rattle.rec_container.proofs.Unique.{one_reading_spec}
 use Rattle.rec_container.specs.Causes.{Rose}
 use Rattle.rec_container.specs.Container.{Entry, IsContainer, content_of}
-use Rattle.rec_container.specs.declared.within.ReadError.TheVariants as read
-use Rattle.rec_container.specs.declared.within.ReadError.{ReadError}
-use Rattle.rec_container.specs.Reading.{IsFault, ◌>>=◌}
-use Rattle.rec_container.specs.Within.{Gave, Unread}
+use Rattle.rec_container.specs.Reading.{◌>>=◌}
+use Rattle.rec_container.specs.Within.{Gave}
 use Rattle.rec_forms.specs.TextForm.{bytes_form}
 use Rattle.rec_format.specs.declared.manifest.PortableManifest.{PortableManifest}
 use Rattle.rec_format.specs.RunForms.{manifest_form}
@@ -20,57 +17,40 @@ use Rattle.rec_codec.specs.declared.line_events.LineError.{LineError}
 use Rattle.rec_codec.specs.Event.{RecordedEvent}
 use Rattle.rec_codec.specs.LineReading.{events_before_fault, first_line_fault}
 use Rattle.rec_codec.specs.Lines.{NumberedLine}
-use Rattle.rec_store.specs.declared.read_error.RecordReadError.TheVariants as parts
-use Rattle.rec_store.specs.declared.read_error.RecordReadError.{RecordReadError}
 use Rattle.rec_store.specs.Entries.{log_name, manifest_name}
 use Rattle.rec_portable.specs.declared.errors.PortableRecordingReadError.TheVariants as bundles
 use Rattle.rec_portable.specs.declared.errors.PortableRecordingReadError.TheVariants.{FileTooLarge}
 use Rattle.rec_portable.specs.declared.errors.PortableRecordingReadError.{
   PortableRecordingReadError,
 }
-use Rattle.rec_portable.specs.Errors.{source_error}
 use Rattle.rec_portable.specs.Judging.{content_judged, format_checked, judged, manifest_found}
 use Rattle.rec_portable.specs.Judging.{manifest_read, store_checked, versions_checked, within}
 use Rattle.rec_portable.specs.OuterEntries.{log_found, log_part}
-use Rattle.rec_replay.specs.declared.conversion_error.ReplayConversionError.TheVariants
-    as conversions
-use Rattle.rec_replay.specs.declared.conversion_error.ReplayConversionError.{ReplayConversionError}
 use Rattle.rec_replay.specs.declared.output_load.LoadOutput.{LoadOutput}
 use Rattle.rec_replay.specs.Lines.{header_line}
-use Rattle.rec_junit.specs.declared.errors.JunitError.TheVariants as reports
-use Rattle.rec_junit.specs.declared.errors.JunitError.{JunitError}
 use Rattle.rec_spans.specs.declared.errors.ChromeTraceError.TheVariants as traces
 use Rattle.rec_spans.specs.declared.errors.ChromeTraceError.{ChromeTraceError}
 use Rattle.rec_spans.specs.declared.settings.ChromeTraceGroupBy.{ChromeTraceGroupBy}
 use Rattle.rec_spans.specs.Plain.{PlainEvent, plain}
 use Rattle.rec_spans.specs.Refusals.{events_refusal}
 use Rattle.rec_trace.specs.declared.settings.ChromeTraceMessageFormat.{ChromeTraceMessageFormat}
-use Rattle.rec_trace.specs.PrintedTimeline.{PrintsTimeline}
 use Rattle.rec_slots.specs.declared.report.SlotError.TheVariants as slots
 use Rattle.rec_slots.specs.declared.report.SlotError.{SlotError}
 use Rattle.rec_slots.specs.declared.report.SlotReport.{SlotReport}
 use Rattle.rec_slots.specs.Refusals.{IsRefused, Reports}
-use Rattle.rec_errors.specs.declared.export_error.RecordExportError.TheVariants as exports
-use Rattle.rec_errors.specs.declared.export_error.RecordExportError.{RecordExportError}
-use Rattle.rec_errors.specs.declared.reading_error.ReadingError.TheVariants.{Bundle, Trace}
-use Rattle.rec_errors.specs.declared.reading_error.ReadingError.TheVariants.{Part, Line}
-use Rattle.rec_errors.specs.declared.reading_error.ReadingError.TheVariants.{Conversion, Report}
-use Rattle.rec_errors.specs.declared.reading_error.ReadingError.TheVariants.{Slots, OutOfMemory}
 use Rattle.rec_errors.specs.declared.reading_error.ReadingError.{ReadingError}
-use Rattle.rec_errors.specs.LineFaults.{line_fault}
 use Rattle.rec_errors.specs.ReadingErrors.{bundle_error, line_error}
-use Rattle.rec_errors.specs.TraceFaults.{trace_fault}
 use Rattle.rec_reading.specs.Converting.{unless_refused}
 use Rattle.rec_reading.specs.Listing.{PrintsInfo, PrintsReplay, PrintsReport, header_of}
 use Rattle.rec_reading.specs.Listing.{info_printed, manifest_line, printed, replay_of, report_of}
 use Rattle.rec_reading.specs.LogEvents.{events_of}
 use Rattle.rec_reading.specs.LogLines.{log_lines}
 use Rattle.rec_reading.specs.Printing.{before, line_prints}
-use Rattle.rec_reading.specs.Reruns.{PrintsRerun, PrintsSelection}
+use Rattle.rec_reading.specs.Reruns.{PrintsRerun}
 use Rattle.rec_reading.specs.Reruns.{RerunParts, parts_after, rerun_parts_of}
 use Rattle.rec_reading.specs.RunParts.{of_bundle, parts_of}
 use Rattle.rec_reading.specs.Slots.{HasUsage, PrintsSlots, run_events, slot_lines}
-use Rattle.rec_export.proofs.Complete.{no_more, same_session}
+use Rattle.rec_export.proofs.Complete.{same_session}
 use Rattle.rec_export.proofs.TimelinesDrawn.{draws_timeline}
 use Rattle.rec_export.specs.Bundle.{AreOf}
 use Rattle.rec_export.specs.declared.counts.Exported.{Exported}
@@ -79,94 +59,15 @@ use Rattle.rec_export.specs.Export.{Exports}
 use Rattle.rec_export.specs.Timelines.{DrawsTimeline}
 use Rattle.rec_faults.specs.FaultLine.{Shown}
 use Rattle.rec_faults.specs.ReadingLine.{reading_shown}
-use Rattle.rec_faults.specs.Status.{bundle_status, conversion_status, export_status}
-use Rattle.rec_faults.specs.Status.{junit_status, part_status, reading_status, slots_status}
+use Rattle.rec_faults.specs.Status.{export_status, reading_status}
 use Rattle.rec_program.proofs.BundlesShown.{withheld}
 use Rattle.rec_program.proofs.RecordedDrawn.{recorded-is_drawn}
+use Rattle.rec_program.proofs.StatusesAbove.{export_above, reading_above}
 use Rattle.rec_program.specs.BundleTraces.{PrintsTrace, bundle_trace, trace_of}
 use Rattle.rec_program.specs.BundleTraces.{trace_of_parts, trace_unless}
 use Rattle.rec_program.specs.LogTraces.{log_refusal, plain_log}
-use Rattle.rec_program.specs.ReadingCommands.{IsMadeOf, OfJudged, Shows, Withholds}
+use Rattle.rec_program.specs.ReadingCommands.{IsMadeOf, OfJudged, Shows}
 use Rattle.rec_program.specs.Running.{Records, ShowsBundle}
-
--- ---- the statuses of refusals are above those of success and of faulty words
-
-pub export_above : (e : RecordExportError) → 2 < export_status e
-export_above exports.SourceFault = lit< tt
-export_above (exports.SessionTooLarge limit) = lit< tt
-export_above exports.ParseHead = lit< tt
-export_above (exports.ReadRunLog line_number) = lit< tt
-export_above (exports.ParseEvent line_number) = lit< tt
-export_above (exports.NameCollision file_name) = lit< tt
-export_above (exports.CountOutOfRange event) = lit< tt
-export_above (exports.FileTooLarge file_name size limit) = lit< tt
-export_above (exports.MissingTestStart event binary_id test_name) = lit< tt
-export_above (exports.MissingScriptStart event script_id) = lit< tt
-export_above (exports.MissingStressSubRunStart event) = lit< tt
-export_above (exports.SpanAlreadyOpen event span) = lit< tt
-export_above (exports.SlotBusy event slot) = lit< tt
-export_above (exports.TimestampOutOfRange event) = lit< tt
-export_above (exports.RowOutOfRange event number) = lit< tt
-export_above exports.BundleFault = lit< tt
-export_above exports.TraceFault = lit< tt
-export_above exports.OutOfMemory = lit< tt
-
-pub bundle_above : (e : PortableRecordingReadError) → 2 < bundle_status e
-bundle_above bundles.SourceFault = lit< tt
-bundle_above (bundles.SpoolTooLarge limit) = lit< tt
-bundle_above (bundles.FileTooLarge file_name size limit) = lit< tt
-bundle_above (bundles.ReadArchive fault) = lit< tt
-bundle_above (bundles.NotAWrapperArchive file_count zip_count) = lit< tt
-bundle_above bundles.ParseManifest = lit< tt
-bundle_above (bundles.UnsupportedFormatVersion found supported incompatibility) = lit< tt
-bundle_above (bundles.UnsupportedStoreFormatVersion found supported incompatibility) = lit< tt
-bundle_above (bundles.MissingFile file_name) = lit< tt
-bundle_above (bundles.ExtractFile file_name) = lit< tt
-bundle_above bundles.OutOfMemory = lit< tt
-
-part_above : (e : RecordReadError) → 2 < part_status e
-part_above (parts.RunNotFound path) = lit< tt
-part_above (parts.OpenArchive path) = lit< tt
-part_above (parts.ParseArchive path fault) = lit< tt
-part_above (parts.FileNotFound file_name) = lit< tt
-part_above (parts.FileTooLarge file_name size limit) = lit< tt
-part_above (parts.NotUtf8 file_name) = lit< tt
-part_above (parts.DeserializeMetadata file_name) = lit< tt
-part_above (parts.UnknownOutputType file_name) = lit< tt
-part_above (parts.ExtractFile store_path) = lit< tt
-part_above (parts.OpenRunLog path) = lit< tt
-part_above (parts.DiskFault path) = lit< tt
-part_above (parts.ReadRunLog line_number) = lit< tt
-part_above (parts.ParseEvent line_number) = lit< tt
-part_above parts.OutOfMemory = lit< tt
-
-conversion_above : (e : ReplayConversionError) → 2 < conversion_status e
-conversion_above (conversions.TestNotFound binary_id test_name) = lit< tt
-conversion_above (conversions.RecordRead e) = lit< tt
-conversion_above conversions.InvalidStressCount = lit< tt
-conversion_above conversions.OutOfMemory = lit< tt
-
-junit_above : (e : JunitError) → 2 < junit_status e
-junit_above reports.NotLoadedOutput = lit< tt
-junit_above reports.SuccessAsFailure = lit< tt
-junit_above reports.OutOfMemory = lit< tt
-
-slots_above : (e : SlotError) → 2 < slots_status e
-slots_above (slots.Refused e) = export_above (trace_fault e)
-slots_above slots.NotOneRun = lit< tt
-slots_above (slots.AttemptOutside event) = lit< tt
-slots_above (slots.StampFell event) = lit< tt
-slots_above slots.OutOfMemory = lit< tt
-
-pub reading_above : (e : ReadingError) → 2 < reading_status e
-reading_above (Bundle e) = bundle_above e
-reading_above (Trace e) = export_above (trace_fault e)
-reading_above (Part e) = part_above e
-reading_above (Line e) = export_above (line_fault e)
-reading_above (Conversion e) = conversion_above e
-reading_above (Report e) = junit_above e
-reading_above (Slots e) = slots_above e
-reading_above OutOfMemory = lit< tt
 
 -- ---- what was recorded
 
@@ -251,7 +152,7 @@ part_read : {A : Type 0} (r : Result A PortableRecordingReadError) (x : A) → o
 part_read (Ok y) x h = cc
 part_read (Err e) x h = absurd cc
 
-info_is : (limit : ℕ) (es : List Entry) (text : List ℕ) → info_printed limit es ≡ Ok text
+pub info_is : (limit : ℕ) (es : List Entry) (text : List ℕ) → info_printed limit es ≡ Ok text
     → (manifest : PortableManifest) × (judged limit es ≡ Ok manifest)
     × (manifest_line manifest ≡ text)
 info_is limit es text h =
@@ -269,7 +170,7 @@ unless_drawn text drawn (Some e) h = absurd cc
 
 module _ (g : ChromeTraceGroupBy) (format : ChromeTraceMessageFormat) (limit : ℕ)
     (es : List Entry) where
-  trace_is : (text : List ℕ) → trace_of g format limit es ≡ Ok text
+  pub trace_is : (text : List ℕ) → trace_of g format limit es ≡ Ok text
       → (manifest : PortableManifest) × (log : List ℕ) × (judged limit es ≡ Ok manifest)
       × (log_part limit es ≡ Ok log)
       × (log_refusal g (log_lines log) ≡ None) × (bundle_trace g format manifest log ≡ text)
@@ -379,7 +280,7 @@ events_read ls none =
 
 module _ (limit : ℕ) (es : List Entry) where
   -- the log and the report after a printed text
-  slots_are : (text : List ℕ) → PrintsSlots limit es (Ok text)
+  pub slots_are : (text : List ℕ) → PrintsSlots limit es (Ok text)
       → (log : List ℕ) × (report : SlotReport) × (log_part limit es ≡ Ok log)
       × (first_line_fault (log_lines log) ≡ None)
       × Reports (plain_log (log_lines log)) (Ok report) × (text ≡ slot_lines report)
@@ -430,7 +331,7 @@ first_none : {E : Type 0} (a b : Option E) → option_or a b ≡ None → a ≡ 
 first_none None b h = refl
 first_none (Some x) b h = absurd cc
 
-log_timeline : (version : Parts) (g : ChromeTraceGroupBy) (ls : List NumberedLine)
+pub log_timeline : (version : Parts) (g : ChromeTraceGroupBy) (ls : List NumberedLine)
     → log_refusal g ls ≡ None → DrawsTimeline version g (plain_log ls)
 unfolding log_refusal
 log_timeline version g ls none =
@@ -468,53 +369,6 @@ module _ {S T G : Type 0} (left : S → Option (List ℕ)) (source_faults : S �
         let p = printed_of bundle_error prints settings.read_limit w.1.0 w.0 w.1.2 in
         (w.1.0, p.0, p.1, w.0, w.1.1, p.2, p.3, p.4, w.2)
 
-    pub informed : ShowsReading PrintsInfo
-        → (bytes : List ℕ) × (es : List Entry) × (manifest : PortableManifest)
-        × Gave left source_faults settings.session_limit s0 s1 bytes × IsContainer bytes es
-        × (judged settings.read_limit es ≡ Ok manifest)
-        × Appends (out_taken o0) (out_taken o1) (manifest_line manifest)
-    informed runs =
-        let w = bundle_printed PrintsInfo runs in
-        let m = info_is settings.read_limit w.1 w.3 w.7 in (
-          w.0,
-          w.1,
-          m.0,
-          w.4,
-          w.5,
-          m.1,
-          subst (λ (t : List ℕ). Appends (out_taken o0) (out_taken o1) t) (sym m.2) w.8,
-        )
-
-    pub traced : ShowsReading (PrintsTrace settings.group_by settings.message_format)
-        → (bytes : List ℕ) × (es : List Entry) × (manifest : PortableManifest) × (log : List ℕ)
-        × Gave left source_faults settings.session_limit s0 s1 bytes × IsContainer bytes es
-        × (judged settings.read_limit es ≡ Ok manifest) × (log_part settings.read_limit es ≡ Ok log)
-        × (log_refusal settings.group_by (log_lines log) ≡ None)
-        × DrawsTimeline manifest.run.nextest_version settings.group_by (plain_log (log_lines log))
-        × PrintsTimeline manifest.run.nextest_version settings.group_by (plain_log (log_lines log))
-        (bundle_trace settings.group_by settings.message_format manifest log)
-        × Appends (out_taken o0) (out_taken o1)
-        (bundle_trace settings.group_by settings.message_format manifest log)
-    traced runs =
-        let w = bundle_printed (PrintsTrace settings.group_by settings.message_format) runs in
-        let m =
-        trace_is settings.group_by settings.message_format settings.read_limit w.1 w.3 w.7.0 in (
-          w.0,
-          w.1,
-          m.0,
-          m.1,
-          w.4,
-          w.5,
-          m.2,
-          m.3,
-          m.4,
-          log_timeline m.0.run.nextest_version settings.group_by (log_lines m.1) m.4,
-          subst (λ (t : List ℕ). PrintsTimeline m.0.run.nextest_version settings.group_by
-              (plain_log (log_lines m.1)) t)
-              (sym m.5) (w.7.1 m.0 m.1 m.2 m.3),
-          subst (λ (t : List ℕ). Appends (out_taken o0) (out_taken o1) t) (sym m.5) w.8,
-        )
-
     pub redrawn : (recorded : Settings) (number : List ℕ → ℕ) (session bytes trace : List ℕ)
         → AreOf number recorded session bytes trace
         → settings.group_by ≡ recorded.group_by → settings.message_format ≡ recorded.message_format
@@ -528,48 +382,6 @@ module _ {S T G : Type 0} (left : S → Option (List ℕ)) (source_faults : S �
         subst (λ (t : List ℕ). Appends (out_taken o0) (out_taken o1) t)
         (same_trace settings recorded number session bytes trace w.1 w.3 are group format is w.7.0)
         w.8
-
-    pub replayed : (output : LoadOutput) → ShowsReading (PrintsReplay output)
-        → (bytes : List ℕ) × (es : List Entry) × (text : List ℕ)
-        × Gave left source_faults settings.session_limit s0 s1 bytes × IsContainer bytes es
-        × (replay_of output settings.read_limit es ≡ Ok text)
-        × Appends (out_taken o0) (out_taken o1) text
-    replayed output runs =
-        let w = bundle_printed (PrintsReplay output) runs in (w.0, w.1, w.3, w.4, w.5, w.7, w.8)
-
-    pub rerun_selected : ShowsReading PrintsRerun
-        → (bytes : List ℕ) × (es : List Entry) × (run : RerunParts) × (text : List ℕ)
-        × Gave left source_faults settings.session_limit s0 s1 bytes × IsContainer bytes es
-        × (rerun_parts_of settings.read_limit es ≡ Ok run) × PrintsSelection run text
-        × Appends (out_taken o0) (out_taken o1) text
-    rerun_selected runs =
-        let w = bundle_printed PrintsRerun runs in
-        (w.0, w.1, w.7.0, w.3, w.4, w.5, w.7.1, w.7.2, w.8)
-
-    pub slotted : ShowsReading PrintsSlots
-        → (bytes : List ℕ) × (es : List Entry) × (manifest : PortableManifest) × (log : List ℕ)
-        × (report : SlotReport) × Gave left source_faults settings.session_limit s0 s1 bytes
-        × IsContainer bytes es
-        × (judged settings.read_limit es ≡ Ok manifest) × (log_part settings.read_limit es ≡ Ok log)
-        × (first_line_fault (log_lines log) ≡ None)
-        × Reports (plain_log (log_lines log)) (Ok report)
-        × Appends (out_taken o0) (out_taken o1) (slot_lines report)
-    slotted runs =
-        let w = bundle_printed PrintsSlots runs in
-        let m = slots_are settings.read_limit w.1 w.3 w.7 in (
-          w.0,
-          w.1,
-          w.2,
-          m.0,
-          m.1,
-          w.4,
-          w.5,
-          w.6,
-          m.2,
-          m.3,
-          m.4,
-          subst (λ (t : List ℕ). Appends (out_taken o0) (out_taken o1) t) m.5 w.8,
-        )
 
   -- what refuses none of the entries refuses nothing
   unrefused : (prints : ℕ → List Entry → Result (List ℕ) ReadingError → Type 0) (es : List Entry)

@@ -1,10 +1,13 @@
+pub mod AcceptedBytes
 pub mod BundlesShown
 pub mod Commands
 pub mod FaultyWords
 pub mod LogTraced
+pub mod Promised
 pub mod RecordedDrawn
 pub mod RunsSalvaged
 pub mod SamplesRecorded
 pub mod StatusesAbove
 pub mod Traced
+pub mod UpgradesJudged
 pub mod WritingCommands

@@ -4,7 +4,7 @@ use Rattle.std.proofs.Common.{Ok, Err, IfOk, IfErr, refl, sym, ap, subst, ◌∙
 use Rattle.std.specs.Borrow.{Bor}
 use Rattle.std.specs.Option.{option_map}
 use Rattle.std.specs.Prelude.{unwrap_or}
-use Rattle.rec_container.proofs.Results.{Ok-injective, unless_ok}
+use Rattle.rec_container.proofs.Results.{unless_ok}
 use Rattle.rec_container.specs.Container.{Entry, IsContainer, content_of}
 use Rattle.rec_container.specs.Reading.{◌>>=◌}
 use Rattle.rec_format.specs.declared.manifest.PortableManifest.{PortableManifest}

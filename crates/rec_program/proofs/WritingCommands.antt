@@ -12,7 +12,6 @@ use Rattle.rec_container.specs.Within.{Gave, Unread}
 use Rattle.rec_format.specs.declared.manifest.PortableManifest.{PortableManifest}
 use Rattle.rec_store.specs.declared.read_error.RecordReadError.TheVariants as parts
 use Rattle.rec_store.specs.declared.read_error.RecordReadError.{RecordReadError}
-use Rattle.rec_store.specs.Reading.{RunRecord}
 use Rattle.rec_store.specs.RunParts.{RunParts, written}
 use Rattle.rec_portable.specs.declared.errors.PortableRecordingReadError.{
   PortableRecordingReadError,
@@ -22,7 +21,7 @@ use Rattle.rec_portable.specs.declared.upgrade_error.UpgradeError.{UpgradeError}
 use Rattle.rec_portable.specs.declared.upgrades.Upgraded.{Upgraded}
 use Rattle.rec_portable.specs.Errors.{source_error}
 use Rattle.rec_portable.specs.Judging.{judged}
-use Rattle.rec_portable.specs.Upgrades.{IsUpgradable, NotUpgraded, Upgrades}
+use Rattle.rec_portable.specs.Upgrades.{NotUpgraded, Upgrades}
 use Rattle.rec_portable.specs.Upgrading.{IsAccepted, IsRefused, open_error}
 use Rattle.rec_salvage.specs.declared.errors.SalvageError.TheVariants as salvages
 use Rattle.rec_salvage.specs.declared.errors.SalvageError.{SalvageError}
@@ -36,6 +35,7 @@ use Rattle.rec_program.proofs.BundlesShown.{withheld}
 use Rattle.rec_program.proofs.Commands.{printed_of}
 use Rattle.rec_program.proofs.RunsSalvaged.{stopped_unfound}
 use Rattle.rec_program.proofs.StatusesAbove.{bundle_above}
+use Rattle.rec_program.proofs.UpgradesJudged.{accepted_unrefused}
 use Rattle.rec_program.specs.Counts.{counts_line}
 use Rattle.rec_program.specs.declared.salvage_refusal.SalvageRefusal.TheVariants.{
   Bundle,
@@ -136,11 +136,9 @@ module _ {S B G : Type 0} (left : S → Option (List ℕ)) (source_faults : S �
   not_upgraded other (inl r) = absurd (other r.0)
   not_upgraded other (inr r) = left_so r.0 r.2.0 r.1
 
-  module _ (bytes : List ℕ) (run : RunRecord) (has : left s0 ≡ Some bytes)
+  module _ (bytes : List ℕ) (parts : RunParts) (has : left s0 ≡ Some bytes)
       (short : length bytes ≤ settings.session_limit)
-      (is : IsUpgradable bytes settings.read_limit run)
-      (accepted : (given : List ℕ) (limit : ℕ) (r : RunRecord) (e : UpgradeError)
-      → IsUpgradable given limit r → IsRefused given limit e → e ≡ upgrades.OutOfMemory)
+      (is : IsAccepted bytes settings.read_limit parts)
       (source : ¬ (Rose (source_faults s0) (source_faults s1)))
       (sink : ¬ (Rose (bundle_faults b0) (bundle_faults b1))) where
     unread : (e : UpgradeError) (fault : ReadError) → e ≡ open_error (source_error fault)
@@ -159,7 +157,7 @@ module _ {S B G : Type 0} (left : S → Option (List ℕ)) (source_faults : S �
     only_memory e (inr (inl (given, gave, inl h, kept))) = h
     only_memory e (inr (inl (given, gave, inr refused, kept))) =
         let same = same_session (left s0) (left s1) bytes given has gave.gave gave.ended in
-        accepted bytes settings.read_limit run e is
+        accepted_unrefused bytes settings.read_limit parts is e
         (subst (λ (b : List ℕ). IsRefused b settings.read_limit e) same refused)
     only_memory e (inr (inr f)) = absurd (sink f.5)
 
@@ -177,44 +175,32 @@ module _ {S B T G : Type 0} (left : S → Option (List ℕ)) (source_faults : S 
     (out_faults : T → ℕ) (diag_taken : G → Option (List ℕ)) (diag_faults : G → ℕ)
     (settings : Settings) (status : ℕ) (s0 s1 : S) (b0 b1 : B) (o0 o1 : T) (d0 d1 : G) where
   -- what was salvaged of the source, and of which run
-  record OfRun (made : Salvaged) : Type 0 where
-    bytes : List ℕ
-    es : List Entry
-    stopped : StoppedRun
-    gave : Gave left source_faults settings.session_limit s0 s1 bytes
-    is : IsContainer bytes es
-    found : stopped_run settings.read_limit es ≡ Ok stopped
-    salvages : Salvages stopped.run stopped.log stopped.store made
+  abbrev Made : Salvaged → Type 0
+  Made made =
+      (bytes : List ℕ) × (es : List Entry) × (stopped : StoppedRun)
+      × Gave left source_faults settings.session_limit s0 s1 bytes × IsContainer bytes es
+      × (stopped_run settings.read_limit es ≡ Ok stopped)
+      × Salvages stopped.run stopped.log stopped.store made
 
   of_run : (s : Salvaged)
       → Shows bundle_refusal SalvagesRun settings.read_limit left source_faults
       settings.session_limit s0 s1 s
-      → OfRun s
+      → Made s
   of_run s (bytes, gave, is) =
       let p = printed_of bundle_refusal SalvagesRun settings.read_limit bytes s is in
-      record {
-        bytes = bytes;
-        es = p.0;
-        stopped = p.4.0;
-        gave = gave;
-        is = p.2;
-        found = p.4.1;
-        salvages = p.4.2;
-      }
+      (bytes, p.0, p.4.0, gave, p.2, p.4.1, p.4.2)
 
   -- with status 0 it was written, and counted
   pub salvaged : status ≡ 0
       → RunsSalvage left source_faults taken bundle_faults out_taken out_faults diag_taken
       diag_faults settings status s0 s1 b0 b1 o0 o1 d0 d1
-      → (bytes : List ℕ) × (es : List Entry) × (stopped : StoppedRun) × (made : Salvaged)
+      → (made : Salvaged) × ((bytes : List ℕ) × (es : List Entry) × (stopped : StoppedRun)
       × Gave left source_faults settings.session_limit s0 s1 bytes × IsContainer bytes es
       × (stopped_run settings.read_limit es ≡ Ok stopped)
-      × Salvages stopped.run stopped.log stopped.store made
+      × Salvages stopped.run stopped.log stopped.store made)
       × Appends (taken b0) (taken b1) made.bundle
       × Appends (out_taken o0) (out_taken o1) (counts_line made.events made.outputs)
-  salvaged zeroed (inl (s, shows, inl (took, inl p))) =
-      let r = of_run s shows in
-      (r.bytes, r.es, r.stopped, s, r.gave, r.is, r.found, r.salvages, took, p.1)
+  salvaged zeroed (inl (s, shows, inl (took, inl p))) = (s, of_run s shows, took, p.1)
   salvaged zeroed (inl (s, shows, inl (took, inr p))) =
       absurd (let eleven : status ≡ 11 = p.0 in omega (arith, zeroed, eleven))
   salvaged zeroed (inl (s, shows, inr f)) =
@@ -228,19 +214,16 @@ module _ {S B T G : Type 0} (left : S → Option (List ℕ)) (source_faults : S 
       → RunsSalvage left source_faults taken bundle_faults out_taken out_faults diag_taken
       diag_faults settings status s0 s1 b0 b1 o0 o1 d0 d1
       → (b1 ≡ b0)
-      ⊎ ((bytes : List ℕ) × (es : List Entry) × (stopped : StoppedRun) × (made : Salvaged)
+      ⊎ ((made : Salvaged) × ((bytes : List ℕ) × (es : List Entry) × (stopped : StoppedRun)
       × Gave left source_faults settings.session_limit s0 s1 bytes × IsContainer bytes es
       × (stopped_run settings.read_limit es ≡ Ok stopped)
-      × Salvages stopped.run stopped.log stopped.store made
+      × Salvages stopped.run stopped.log stopped.store made)
       × (((status ≡ 11) × Appends (taken b0) (taken b1) made.bundle)
       ⊎ ((status ≡ 10) × TookPart (taken b0) (taken b1) made.bundle)))
   not_salvaged other (inl (s, shows, inl (took, inl p))) = absurd (other p.0)
   not_salvaged other (inl (s, shows, inl (took, inr p))) =
-      let r = of_run s shows in
-      inr (r.bytes, r.es, r.stopped, s, r.gave, r.is, r.found, r.salvages, inl (p.0, took))
-  not_salvaged other (inl (s, shows, inr f)) =
-      let r = of_run s shows in
-      inr (r.bytes, r.es, r.stopped, s, r.gave, r.is, r.found, r.salvages, inr (f.3.0, f.1))
+      inr (s, of_run s shows, inl (p.0, took))
+  not_salvaged other (inl (s, shows, inr f)) = inr (s, of_run s shows, inr (f.3.0, f.1))
   not_salvaged other (inr r) = inl r.2
 
   module _ (bytes : List ℕ) (es prefix : List Entry) (stopped : StoppedRun)

@@ -1,6 +1,8 @@
 pub mod BundleTraces
 pub mod Counts
 pub mod LogTraces
+pub mod Objects
+pub mod Promises
 pub mod ReadingCommands
 pub mod Redrawing
 pub mod Running

@@ -37,6 +37,7 @@ use Rattle.rec_program.specs.BundleTraces.{PrintsTrace}
 use Rattle.rec_program.specs.Counts.{counts_line}
 use Rattle.rec_program.specs.declared.salvage_refusal.SalvageRefusal.TheVariants.{BundleFailed}
 use Rattle.rec_program.specs.declared.salvage_refusal.SalvageRefusal.{SalvageRefusal}
+use Rattle.rec_program.specs.Objects.{Objects}
 use Rattle.rec_program.specs.ReadingCommands.{Shows, Withholds}
 use Rattle.rec_program.specs.Salvaging.{SalvagesRun, bundle_refusal, refusal_shown, refusal_status}
 use Rattle.rec_program.specs.Samples.{SampleFails, Samples}
@@ -150,54 +151,50 @@ module _ {S B T G : Type 0} (left : S → Option (List ℕ)) (source_faults : S 
       source_faults settings.session_limit s0 s1 e × (b1 ≡ b0) × (o1 ≡ o0)
       × Refuses refusal_shown refusal_status diag_taken diag_faults e status d0 d1)
 
-module _ {S B T G : Type 0} (left : S → Option (List ℕ)) (source_faults : S → ℕ)
-    (taken : B → Option (List ℕ)) (bundle_faults : B → ℕ) (out_taken : T → Option (List ℕ))
-    (out_faults : T → ℕ) (diag_taken : G → Option (List ℕ)) (diag_faults : G → ℕ)
-    (number : List ℕ → ℕ) where
-  -- the same of a command that reads a bundle, and refuses as such commands do
-  abbrev ShowsReading : (ℕ → List Entry → Result (List ℕ) ReadingError → Type 0) → Settings → ℕ → S
-      → S → T → T → G → G → Type 0
-  ShowsReading =
-      ShowsBundle reading_shown reading_status bundle_error left source_faults out_taken out_faults
-      diag_taken diag_faults
+module _ {S B T G : Type 0} (o : Objects S B T G) (status : ℕ) where
+  -- the same of a command that reads a bundle, and refuses as such commands do; it leaves the
+  -- bundle's sink as it was
+  abbrev pub ShowsReading : (ℕ → List Entry → Result (List ℕ) ReadingError → Type 0) → Settings
+      → Type 0
+  ShowsReading prints settings =
+      ShowsBundle reading_shown reading_status bundle_error o.source.left o.source.faults
+      o.out.taken o.out.faults o.diag.taken o.diag.faults prints settings status o.s0 o.s1 o.o0 o.o1
+      o.d0 o.d1
+      × (o.b1 ≡ o.b0)
+
+  -- a text about the program was printed
+  abbrev pub Tells : List ℕ → Type 0
+  Tells text =
+      Prints o.out.taken o.out.faults o.diag.taken o.diag.faults text status o.o0 o.o1 o.d0 o.d1
+      × (o.s1 ≡ o.s0) × (o.b1 ≡ o.b0)
 
   -- what the program does for the command that its words are; faulty words touch nothing,
   -- and are reported
-  abbrev pub Runs : Result Asked WordsError → ℕ → S → S → B → B → T → T → G → G → Type 0
-  Runs (Ok (recording path settings)) status s0 s1 b0 b1 o0 o1 d0 d1 =
-      Records left source_faults taken bundle_faults out_taken out_faults diag_taken diag_faults
-      number settings status s0 s1 b0 b1 o0 o1 d0 d1
-  Runs (Ok (tracing settings)) status s0 s1 b0 b1 o0 o1 d0 d1 =
-      ShowsReading (PrintsTrace settings.group_by settings.message_format)
-      settings status s0 s1 o0 o1 d0 d1
-      × (b1 ≡ b0)
-  Runs (Ok (replaying output settings)) status s0 s1 b0 b1 o0 o1 d0 d1 =
-      ShowsReading (PrintsReplay output) settings status s0 s1 o0 o1 d0 d1 × (b1 ≡ b0)
-  Runs (Ok (reporting settings)) status s0 s1 b0 b1 o0 o1 d0 d1 =
-      ShowsReading PrintsReport settings status s0 s1 o0 o1 d0 d1 × (b1 ≡ b0)
-  Runs (Ok (informing settings)) status s0 s1 b0 b1 o0 o1 d0 d1 =
-      ShowsReading PrintsInfo settings status s0 s1 o0 o1 d0 d1 × (b1 ≡ b0)
-  Runs (Ok (slotting settings)) status s0 s1 b0 b1 o0 o1 d0 d1 =
-      ShowsReading PrintsSlots settings status s0 s1 o0 o1 d0 d1 × (b1 ≡ b0)
-  Runs (Ok (rerunning settings)) status s0 s1 b0 b1 o0 o1 d0 d1 =
-      ShowsReading PrintsRerun settings status s0 s1 o0 o1 d0 d1 × (b1 ≡ b0)
-  Runs (Ok (sampling n path settings)) status s0 s1 b0 b1 o0 o1 d0 d1 =
-      RecordsSample taken bundle_faults out_taken out_faults diag_taken diag_faults number settings
-      (sample_session n) status b0 b1 o0 o1 d0 d1
-      × (s1 ≡ s0)
-  Runs (Ok (upgrading path settings)) status s0 s1 b0 b1 o0 o1 d0 d1 =
-      RunsUpgrade left source_faults taken bundle_faults diag_taken diag_faults settings status s0
-      s1 b0 b1 d0 d1
-      × (o1 ≡ o0)
-  Runs (Ok (salvaging path settings)) status s0 s1 b0 b1 o0 o1 d0 d1 =
-      RunsSalvage left source_faults taken bundle_faults out_taken out_faults diag_taken diag_faults
-      settings status s0 s1 b0 b1 o0 o1 d0 d1
-  Runs (Ok help) status s0 s1 b0 b1 o0 o1 d0 d1 =
-      Prints out_taken out_faults diag_taken diag_faults USAGE.now status o0 o1 d0 d1 × (s1 ≡ s0)
-      × (b1 ≡ b0)
-  Runs (Ok version) status s0 s1 b0 b1 o0 o1 d0 d1 =
-      Prints out_taken out_faults diag_taken diag_faults versions_text status o0 o1 d0 d1
-      × (s1 ≡ s0) × (b1 ≡ b0)
-  Runs (Err fault) status s0 s1 b0 b1 o0 o1 d0 d1 =
-      (s1 ≡ s0) × (b1 ≡ b0) × (o1 ≡ o0)
-      × Refuses words_shown words_status diag_taken diag_faults fault status d0 d1
+  abbrev pub Runs : (List ℕ → ℕ) → Result Asked WordsError → Type 0
+  Runs number (Ok (recording path settings)) =
+      Records o.source.left o.source.faults o.bundle.taken o.bundle.faults o.out.taken o.out.faults
+      o.diag.taken o.diag.faults number settings status o.s0 o.s1 o.b0 o.b1 o.o0 o.o1 o.d0 o.d1
+  Runs number (Ok (tracing settings)) =
+      ShowsReading (PrintsTrace settings.group_by settings.message_format) settings
+  Runs number (Ok (replaying output settings)) = ShowsReading (PrintsReplay output) settings
+  Runs number (Ok (reporting settings)) = ShowsReading PrintsReport settings
+  Runs number (Ok (informing settings)) = ShowsReading PrintsInfo settings
+  Runs number (Ok (slotting settings)) = ShowsReading PrintsSlots settings
+  Runs number (Ok (rerunning settings)) = ShowsReading PrintsRerun settings
+  Runs number (Ok (sampling n path settings)) =
+      RecordsSample o.bundle.taken o.bundle.faults o.out.taken o.out.faults o.diag.taken
+      o.diag.faults number settings (sample_session n) status o.b0 o.b1 o.o0 o.o1 o.d0 o.d1
+      × (o.s1 ≡ o.s0)
+  Runs number (Ok (upgrading path settings)) =
+      RunsUpgrade o.source.left o.source.faults o.bundle.taken o.bundle.faults o.diag.taken
+      o.diag.faults settings status o.s0 o.s1 o.b0 o.b1 o.d0 o.d1
+      × (o.o1 ≡ o.o0)
+  Runs number (Ok (salvaging path settings)) =
+      RunsSalvage o.source.left o.source.faults o.bundle.taken o.bundle.faults o.out.taken
+      o.out.faults o.diag.taken o.diag.faults settings status o.s0 o.s1 o.b0 o.b1 o.o0 o.o1 o.d0
+      o.d1
+  Runs number (Ok help) = Tells USAGE.now
+  Runs number (Ok version) = Tells versions_text
+  Runs number (Err fault) =
+      (o.s1 ≡ o.s0) × (o.b1 ≡ o.b0) × (o.o1 ≡ o.o0)
+      × Refuses words_shown words_status o.diag.taken o.diag.faults fault status o.d0 o.d1

@@ -1,12 +1,14 @@
 //! Records a test run into a portable bundle, and draws its trace.
 #![tactic(auto)]
 
-ghost use Rattle.std.specs.Prelude.{◌≡◌, [], IfOk, string_bytes, unwrap_or};
+ghost use Rattle.std.specs.IoError.{error_kind};
+ghost use Rattle.std.specs.Prelude.{◌≡◌, ◌↔◌, [], IfOk, string_bytes, unwrap_or};
 ghost use Rattle.rec_words.specs.Words.{bundle_of, command, texts};
 
 use rec_container::{FileSink, Sink, StdSink, StdSource};
 use rec_program::{FAULTY_WORDS, OUT_OF_MEMORY, bundle_path, run_program, write_fault};
 use std::alloc::{AllocError, Global};
+use std::io::ErrorKind;
 use std::process::ExitCode;
 use std::rt::{Env, Files};
 use std::{env, fs, io};
@@ -17,17 +19,23 @@ fn words_of<R: Env + AllocGlobal>(rt: &R) -> io::Result<Vec<String>> {
     Ok(words)
 }
 
-/// Returns the status where the words can't be had.
-/// Only for a word that isn't UTF-8 there is no line.
-fn status_without_words<G: Sink>(error: &io::Error, diag: &mut G) -> u8 {
+/// Returns the status where the words can't be had: 70 where memory ran out, else 2, as for a word
+/// that isn't UTF-8. Only for the first there is a line.
+fn status_without_words<G: Sink>(error: &io::Error, diag: &mut G) -> u8
+    ensures memory { (result ≡ 70) ↔ (error_kind error.now ≡ ErrorKind.OutOfMemory) }
+    ensures words { ¬ (error_kind error.now ≡ ErrorKind.OutOfMemory)
+        → (result ≡ 2) × (diag.new ≡ diag.old) }
+{
     match error.kind() {
-        io::ErrorKind::OutOfMemory => status_without_memory(diag),
+        ErrorKind::OutOfMemory => status_without_memory(diag),
         _ => FAULTY_WORDS,
     }
 }
 
 /// Writes the line of want of memory, and returns its status.
-fn status_without_memory<G: Sink>(diag: &mut G) -> u8 {
+fn status_without_memory<G: Sink>(diag: &mut G) -> u8
+    ensures { result ≡ 70 }
+{
     write_fault(&AllocError, diag);
     OUT_OF_MEMORY
 }

@@ -1,0 +1,183 @@
+-- What the program promises of each command.
+use Rattle.std.specs.Prelude.{◌≡◌, ◌⊎◌, ◌≤◌, ⊤, ℕ, List, length, Option, Some, None, Ok}
+use Rattle.rec_container.specs.Container.{Entry, IsContainer}
+use Rattle.rec_container.specs.WholePrefixes.{IsWholePrefix}
+use Rattle.rec_format.specs.declared.manifest.PortableManifest.{PortableManifest}
+use Rattle.rec_codec.specs.LineReading.{first_line_fault}
+use Rattle.rec_store.specs.RunParts.{RunParts, written}
+use Rattle.rec_portable.specs.declared.upgrades.Upgraded.{Upgraded}
+use Rattle.rec_portable.specs.Judging.{judged}
+use Rattle.rec_portable.specs.OuterEntries.{log_part}
+use Rattle.rec_portable.specs.Upgrades.{Upgrades}
+use Rattle.rec_portable.specs.Upgrading.{IsAccepted}
+use Rattle.rec_salvage.specs.declared.salvaging.Salvaged.{Salvaged}
+use Rattle.rec_salvage.specs.Refusals.{prefix_refusal}
+use Rattle.rec_salvage.specs.Salvages.{Salvages}
+use Rattle.rec_trace.specs.PrintedTimeline.{PrintsTimeline}
+use Rattle.rec_slots.specs.declared.report.SlotReport.{SlotReport}
+use Rattle.rec_slots.specs.Refusals.{Reports}
+use Rattle.rec_reading.specs.Listing.{manifest_line, replay_of, report_of}
+use Rattle.rec_reading.specs.LogLines.{log_lines}
+use Rattle.rec_reading.specs.Reruns.{PrintsSelection, RerunParts, rerun_parts_of}
+use Rattle.rec_reading.specs.Slots.{HasUsage, slot_lines}
+use Rattle.rec_sample.specs.Session.{sample_session}
+use Rattle.rec_export.specs.Bundle.{session_refusal}
+use Rattle.rec_export.specs.declared.counts.Exported.{Exported}
+use Rattle.rec_export.specs.declared.settings.Settings.{Settings}
+use Rattle.rec_export.specs.Export.{Exports}
+use Rattle.rec_export.specs.Timelines.{DrawsTimeline}
+use Rattle.rec_words.specs.declared.usage.TheConstants.{USAGE}
+use Rattle.rec_words.specs.Usage.{versions_text}
+use Rattle.rec_words.specs.Words.{Asked, recording, tracing, replaying}
+use Rattle.rec_words.specs.Words.{reporting, informing, slotting, rerunning}
+use Rattle.rec_words.specs.Words.{sampling, upgrading, salvaging, help, version}
+use Rattle.rec_program.specs.BundleTraces.{bundle_trace}
+use Rattle.rec_program.specs.Counts.{counts_line}
+use Rattle.rec_program.specs.LogTraces.{log_refusal, plain_log}
+use Rattle.rec_program.specs.Objects.{Objects, SourceGave, SourceFailed}
+use Rattle.rec_program.specs.Objects.{BundleTook, BundleTookPart, BundleFailed, OutTook, OutFailed}
+use Rattle.rec_program.specs.Salvaging.{StoppedRun, stopped_run}
+use Rattle.rec_program.specs.Samples.{TakesSample, session_counts}
+
+module _ {S B T G : Type 0} (o : Objects S B T G) where
+  -- The source was read to its end, and its bytes are a bundle within the limits, whose manifest is
+  -- judged to be read. `out` took the text that the command makes of it
+  abbrev pub Shows : Settings → (List Entry → PortableManifest → List ℕ → Type 0) → Type 0
+  Shows settings Makes =
+      (bytes : List ℕ) × (es : List Entry) × (manifest : PortableManifest) × (text : List ℕ)
+      × SourceGave o settings.session_limit bytes × IsContainer bytes es
+      × (judged settings.read_limit es ≡ Ok manifest) × Makes es manifest text × OutTook o text
+
+  -- the source was read to its end, and this is salvaged of the run in the bundle that it gave
+  abbrev pub Rescues : Settings → Salvaged → Type 0
+  Rescues settings made =
+      (bytes : List ℕ) × (es : List Entry) × (stopped : StoppedRun)
+      × SourceGave o settings.session_limit bytes × IsContainer bytes es
+      × (stopped_run settings.read_limit es ≡ Ok stopped)
+      × Salvages stopped.run stopped.log stopped.store made
+
+  -- What status 0 says. Of a recording: nothing of the session is left to read; what the bundle's
+  -- sink took is read as the head and the events of the session, with long outputs cut; and `out`
+  -- took the text of their trace, in which a viewer reads their timeline
+  abbrev pub Succeeds : (List ℕ → ℕ) → Asked → Type 0
+  Succeeds number (recording path settings) =
+      (exported : Exported) × Exports o.source.left o.source.faults o.bundle.taken o.bundle.faults
+      o.out.taken o.out.faults number settings o.s0 o.s1 o.b0 o.b1 o.o0 o.o1 exported
+  Succeeds number (tracing settings) =
+      Shows settings (λ es manifest text. (log : List ℕ)
+      × (log_part settings.read_limit es ≡ Ok log)
+      × (log_refusal settings.group_by (log_lines log) ≡ None)
+      × DrawsTimeline manifest.run.nextest_version settings.group_by (plain_log (log_lines log))
+      × PrintsTimeline manifest.run.nextest_version settings.group_by (plain_log (log_lines log))
+      text
+      × (text ≡ bundle_trace settings.group_by settings.message_format manifest log))
+  Succeeds number (replaying output settings) =
+      Shows settings (λ es manifest text. replay_of output settings.read_limit es ≡ Ok text)
+  Succeeds number (reporting settings) =
+      Shows settings (λ es manifest text. report_of settings.read_limit es ≡ Ok text)
+  Succeeds number (informing settings) =
+      Shows settings (λ es manifest text. text ≡ manifest_line manifest)
+  Succeeds number (slotting settings) =
+      Shows settings (λ es manifest text. (log : List ℕ) × (report : SlotReport)
+      × (log_part settings.read_limit es ≡ Ok log) × (first_line_fault (log_lines log) ≡ None)
+      × Reports (plain_log (log_lines log)) (Ok report) × (text ≡ slot_lines report))
+  Succeeds number (rerunning settings) =
+      Shows settings (λ es manifest text. (run : RerunParts)
+      × (rerun_parts_of settings.read_limit es ≡ Ok run) × PrintsSelection run text)
+  Succeeds number (sampling n path settings) =
+      TakesSample o.bundle.taken number settings (sample_session n) o.b0 o.b1
+      × OutTook o (session_counts number settings (sample_session n))
+  Succeeds number (upgrading path settings) =
+      (counts : Upgraded) × Upgrades o.source.left o.source.faults o.bundle.taken o.bundle.faults
+      settings.session_limit settings.read_limit o.s0 o.s1 o.b0 o.b1 counts
+  Succeeds number (salvaging path settings) =
+      (made : Salvaged) × Rescues settings made × BundleTook o made.bundle
+      × OutTook o (counts_line made.events made.outputs)
+  Succeeds number help = OutTook o USAGE.now
+  Succeeds number version = OutTook o versions_text
+
+  -- What another status says of the bundle's sink: of an upgrade, that it is as it was, or the
+  -- status is 10 and it took a proper prefix; of a salvage the same, or the status is 11 and it
+  -- took the whole bundle
+  abbrev pub Stops : Asked → ℕ → Type 0
+  Stops (upgrading path settings) status =
+      (o.b1 ≡ o.b0)
+      ⊎ ((status ≡ 10) × ((bytes : List ℕ) × (parts : RunParts)
+      × SourceGave o settings.session_limit bytes × IsAccepted bytes settings.read_limit parts
+      × BundleTookPart o (written parts)))
+  Stops (salvaging path settings) status =
+      (o.b1 ≡ o.b0)
+      ⊎ ((made : Salvaged) × Rescues settings made
+      × (((status ≡ 11) × BundleTook o made.bundle)
+      ⊎ ((status ≡ 10) × BundleTookPart o made.bundle)))
+  Stops asked status = ⊤
+
+-- ---- which bytes a command accepts
+
+-- the bytes that a command judges: those that the source has left, or the session that it makes
+abbrev pub Judges : Asked → Option (List ℕ) → List ℕ → Type 0
+Judges (sampling n path settings) left bytes = bytes ≡ sample_session n
+Judges help left bytes = ⊤
+Judges version left bytes = ⊤
+Judges asked left bytes = left ≡ Some bytes
+
+-- a session within the limit that isn't refused
+abbrev pub IsValid : (List ℕ → ℕ) → Settings → List ℕ → Type 0
+IsValid number settings session =
+    (length session ≤ settings.session_limit) × (session_refusal number settings session ≡ None)
+
+-- a bundle within the limits, whose manifest is judged to be read, with entries of this kind
+abbrev pub IsBundle : Settings → (List Entry → Type 0) → List ℕ → Type 0
+IsBundle settings Has bytes =
+    (length bytes ≤ settings.session_limit) × ((es : List Entry) × (manifest : PortableManifest)
+    × IsContainer bytes es × (judged settings.read_limit es ≡ Ok manifest) × Has es)
+
+abbrev pub Accepts : (List ℕ → ℕ) → Asked → List ℕ → Type 0
+Accepts number (recording path settings) bytes = IsValid number settings bytes
+Accepts number (tracing settings) bytes =
+    IsBundle settings (λ es. (log : List ℕ) × (log_part settings.read_limit es ≡ Ok log)
+    × (log_refusal settings.group_by (log_lines log) ≡ None))
+    bytes
+Accepts number (replaying output settings) bytes =
+    IsBundle settings
+    (λ es. (text : List ℕ) × (replay_of output settings.read_limit es ≡ Ok text)) bytes
+Accepts number (reporting settings) bytes =
+    IsBundle settings (λ es. (text : List ℕ) × (report_of settings.read_limit es ≡ Ok text)) bytes
+Accepts number (informing settings) bytes = IsBundle settings (λ es. ⊤) bytes
+Accepts number (slotting settings) bytes =
+    IsBundle settings (λ es. (log : List ℕ) × (log_part settings.read_limit es ≡ Ok log)
+    × (first_line_fault (log_lines log) ≡ None) × HasUsage (plain_log (log_lines log)))
+    bytes
+Accepts number (rerunning settings) bytes =
+    IsBundle settings
+    (λ es. (run : RerunParts) × (rerun_parts_of settings.read_limit es ≡ Ok run)) bytes
+Accepts number (sampling n path settings) bytes = IsValid number settings bytes
+Accepts number (upgrading path settings) bytes =
+    (length bytes ≤ settings.session_limit)
+    × ((parts : RunParts) × IsAccepted bytes settings.read_limit parts)
+Accepts number (salvaging path settings) bytes =
+    IsBundle settings (λ es. (stopped : StoppedRun) × (prefix : List Entry)
+    × (stopped_run settings.read_limit es ≡ Ok stopped) × IsWholePrefix stopped.store prefix
+    × (prefix_refusal prefix ≡ None))
+    bytes
+Accepts number help bytes = ⊤
+Accepts number version bytes = ⊤
+
+module _ {S B T G : Type 0} (o : Objects S B T G) where
+  -- none of the objects that a command uses failed
+  abbrev pub Undisturbed : Asked → Type 0
+  Undisturbed (recording path settings) =
+      ¬ SourceFailed o × ¬ BundleFailed o × ¬ OutFailed o
+  Undisturbed (sampling n path settings) = ¬ BundleFailed o × ¬ OutFailed o
+  Undisturbed (upgrading path settings) = ¬ SourceFailed o × ¬ BundleFailed o
+  Undisturbed (salvaging path settings) =
+      ¬ SourceFailed o × ¬ BundleFailed o × ¬ OutFailed o
+  Undisturbed help = ¬ OutFailed o
+  Undisturbed version = ¬ OutFailed o
+  Undisturbed asked = ¬ SourceFailed o × ¬ OutFailed o
+
+-- a command prints a text about the program, which takes no memory
+abbrev pub IsTold : Asked → Type 0
+IsTold help = ⊤
+IsTold version = ⊤
+IsTold asked = ⊥
