@@ -5,6 +5,7 @@ pub mod FaultyWords
 pub mod LogTraced
 pub mod Promised
 pub mod RecordedDrawn
+pub mod RefusedBytes
 pub mod RunsSalvaged
 pub mod SamplesRecorded
 pub mod StatusesAbove

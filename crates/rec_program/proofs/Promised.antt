@@ -23,6 +23,7 @@ use Rattle.rec_program.proofs.Commands.{bundle_printed, info_is, info_or_memory,
 use Rattle.rec_program.proofs.Commands.{recorded_whole, redrawn, replay_or_memory}
 use Rattle.rec_program.proofs.Commands.{report_or_memory, rerun_or_memory, slots_are}
 use Rattle.rec_program.proofs.Commands.{slots_or_memory, trace_is, trace_or_memory}
+use Rattle.rec_program.proofs.RefusedBytes.{only_refused}
 use Rattle.rec_program.proofs.SamplesRecorded.{sampled, sampled_or_memory}
 use Rattle.rec_program.proofs.WritingCommands.{not_salvaged, not_upgraded, salvaged}
 use Rattle.rec_program.proofs.WritingCommands.{salvaged_or_memory, upgraded, upgraded_or_memory}
@@ -31,6 +32,7 @@ use Rattle.rec_program.specs.Objects.{Objects, OutFailed, OutTook}
 use Rattle.rec_program.specs.Promises.{Accepts, IsTold, Judges, Shows, Stops, Succeeds}
 use Rattle.rec_program.specs.Promises.{Undisturbed}
 use Rattle.rec_program.specs.Running.{Runs, ShowsReading, Tells}
+use Rattle.rec_program.specs.Statuses.{Refuses}
 
 -- ---- what is printed of a bundle, by its parts
 
@@ -213,6 +215,12 @@ module _ {S B T G : Type 0} (o : Objects S B T G) (status : ℕ) where
         → Judges asked (o.source.left o.s0) bytes → status ≡ 0 → Accepts number asked bytes
     accepted asked bytes is has zeroed =
         only_accepted o bytes number asked has (succeeded asked is zeroed)
+
+    pub refused : (asked : Asked) (bytes : List ℕ) → words ≡ Ok asked
+        → Judges asked (o.source.left o.s0) bytes → Undisturbed o asked → ¬ (status ≡ 0)
+        → ¬ (status ≡ 70) → Refuses number asked bytes status
+    refused asked bytes is has well other memory =
+        only_refused o status bytes other memory number asked has well (asked_runs asked is)
 
     pub told_or_failed : (asked : Asked) → words ≡ Ok asked → IsTold asked
         → (status ≡ 0) ⊎ ((status ≡ 11) × OutFailed o)

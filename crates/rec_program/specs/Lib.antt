@@ -8,3 +8,4 @@ pub mod Redrawing
 pub mod Running
 pub mod Salvaging
 pub mod Samples
+pub mod Statuses

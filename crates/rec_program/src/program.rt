@@ -15,6 +15,7 @@ ghost use Rattle.rec_program.specs.Objects.{lent};
 ghost use Rattle.rec_program.specs.Promises.{Accepts, IsTold, Judges, Stops, Succeeds, Undisturbed};
 ghost use Rattle.rec_program.specs.Running.{Prints, Records, RecordsSample, Runs, RunsSalvage};
 ghost use Rattle.rec_program.specs.Running.{RunsUpgrade, ShowsMade, WritesSalvage};
+ghost use Rattle.rec_program.specs.Statuses.{Refuses};
 
 use crate::reading::read_bundle;
 use crate::salvage::{CountedSalvage, salvage_bundle};
@@ -100,6 +101,18 @@ pub fn run_program<S: Source, B: Sink, T: Sink, G: Sink>(
         → Judges asked (S.left source.old) bytes
         → result ≡ 0
         → Accepts sha256_number asked bytes }
+
+    // Where none of the objects that the command uses failed, a status other than 0 and 70 comes
+    // only for bytes that the command refuses with it.
+    ensures refuses { (asked : Asked) (bytes : List ℕ)
+        → command (texts words.now) ≡ Ok asked
+        → Judges asked (S.left source.old) bytes
+        → Undisturbed (lent S.Source B.Sink T.Sink G.Sink source.old source.new
+        bundle.old bundle.new out.old out.new diag.old diag.new)
+        asked
+        → ¬ (result ≡ 0)
+        → ¬ (result ≡ 70)
+        → Refuses sha256_number asked bytes result }
 
     // A text about the program takes no memory: it ends with status 0, or with 11 where `out`
     // failed.

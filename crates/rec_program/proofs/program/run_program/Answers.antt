@@ -2,7 +2,7 @@ use Rattle.rec_store.specs.Namer.{sha256_number}
 use Rattle.rec_program.proofs.FaultyWords.{two_is_faulty}
 use Rattle.rec_program.proofs.program.run_program.Goals as goal
 use Rattle.rec_program.proofs.Promised.{accepted, completed, drawn_again, stopped}
-use Rattle.rec_program.proofs.Promised.{succeeded, told_or_failed}
+use Rattle.rec_program.proofs.Promised.{refused, succeeded, told_or_failed}
 use Rattle.rec_program.specs.Objects.{lent}
 
 pub returns-clause-succeeds : goal.returns-clause-succeeds
@@ -48,5 +48,11 @@ returns-clause-accepts g c =
 pub returns-clause-told : goal.returns-clause-told
 returns-clause-told g c =
     told_or_failed (lent g.S.Source g.B.Sink g.T.Sink g.G.Sink c.args.source.now c.run.new.source
+    c.args.bundle.now c.run.new.bundle c.args.out.now c.run.new.out c.args.diag.now c.run.new.diag)
+    c.run.result sha256_number _ c.run.ensures
+
+pub returns-clause-refuses : goal.returns-clause-refuses
+returns-clause-refuses g c =
+    refused (lent g.S.Source g.B.Sink g.T.Sink g.G.Sink c.args.source.now c.run.new.source
     c.args.bundle.now c.run.new.bundle c.args.out.now c.run.new.out c.args.diag.now c.run.new.diag)
     c.run.result sha256_number _ c.run.ensures
