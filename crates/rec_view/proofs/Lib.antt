@@ -9,3 +9,4 @@ pub mod Walks
 pub mod Stretches
 pub mod Examples
 pub mod Passing
+pub mod GapsShown

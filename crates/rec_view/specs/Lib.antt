@@ -5,6 +5,7 @@ pub mod Tests
 pub mod Attempts
 pub mod Extents
 pub mod Slices
+pub mod ShownGaps
 pub mod Seen
 pub mod Open
 pub mod Rows

@@ -5,12 +5,14 @@
 mod acts;
 mod counts;
 pub mod laws;
+mod shown_gaps;
 mod test_views;
 mod verdicts;
 mod view;
 mod walk;
 
 pub use counts::Counts;
+pub use shown_gaps::{ShownGaps, Slice};
 pub use test_views::{Attempt, TestView};
 pub use verdicts::Verdict;
 pub use view::{RunView, view_events};
