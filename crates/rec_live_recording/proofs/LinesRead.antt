@@ -1,6 +1,7 @@
 -- How lines are read from pieces.
 use Rattle.std.proofs.Common.{◌≡◌, ℕ, ◌+◌, ◌-◌, ◌<◌, ◌≤◌, ◌==◌, List, [], ◌∷◌, ◌++◌, length}
-use Rattle.std.proofs.Common.{take, drop, get_or, Bool, true, false, Option, Some, None, Result, Ok, Err}
+use Rattle.std.proofs.Common.{take, drop, get_or, Bool, true, false, Option, Some, None, Result}
+use Rattle.std.proofs.Common.{Ok, Err}
 use Rattle.std.proofs.Common.{nat_lt, if◌then◌else◌, refl, sym, ap, subst, ◌∙◌, arith}
 use Rattle.std.proofs.Common.{append_assoc, append-nil, length-append}
 use Rattle.std.proofs.lemmas.Bool.Decides.{nat_tests}
@@ -184,7 +185,8 @@ module _ {S : Type 0} (left : S → Option (List ℕ)) where
   }
 
   -- no piece was read
-  pub piece_missed : (total : ℕ) (text rest : List ℕ) (first old new : LineReading S) (e : ReadError)
+  pub piece_missed : (total : ℕ) (text rest : List ℕ) (first old new : LineReading S)
+      (e : ReadError)
       → old.limit ≡ first.limit → ReadsPiece left total rest old new (Err e)
       → ReadsLine left total text first new (Err e)
   piece_missed total text rest first old new SourceFault same misses = tt
