@@ -98,6 +98,13 @@ def run(options: Options) -> int:
 def words_parser() -> argparse.ArgumentParser:
     """Return the parser of the program's words."""
     parser = command_line(__doc__)
+    add_files(parser)
+    add_options(parser)
+    return parser
+
+
+def add_files(parser: argparse.ArgumentParser) -> None:
+    """Let words name the files that are read, and the folder that is written."""
     parser.add_argument(
         "reports",
         nargs="?",
@@ -117,6 +124,10 @@ def words_parser() -> argparse.ArgumentParser:
         metavar="FILE",
         help="the bundle or the session of the runs",
     )
+
+
+def add_options(parser: argparse.ArgumentParser) -> None:
+    """Let words say what stands in the files, and what the status tells."""
     parser.add_argument(
         "--dialect",
         choices=sorted(LEFT_OUT),
@@ -137,7 +148,6 @@ def words_parser() -> argparse.ArgumentParser:
         help="the most bytes of a text, and ten times those of an attribute; "
         f"a longer one is cut ({MOST})",
     )
-    return parser
 
 
 def options_of(words: list[str]) -> Options:
