@@ -230,3 +230,9 @@ pub smaller : (limit given limit' given' count : ℕ) → limit' ≡ limit → g
     → 0 < count → given' ≤ limit' → limit' - given' < limit - given
 smaller limit given limit' given' count same more some within =
     omega (arith, same, more, some, within)
+
+-- a line that was ended is one more
+pub ended_counted : {S : Type 0} (old new : LineReading S) (some : Bool)
+    → Ok {E = ReadError} some ≡ Ok true → Ends old new some → new.number ≡ old.number + 1
+ended_counted old new true h ends = ends.1
+ended_counted old new false h ends = absurd (let k = h in cc)

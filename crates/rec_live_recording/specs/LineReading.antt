@@ -27,6 +27,12 @@ abbrev pub IsPart : List ℕ → Type 0
 IsPart bytes = All (λ b. (b == 10) ≡ false) bytes
 
 module _ {S : Type 0} where
+  -- nothing was read
+  pub record IsFresh (r : LineReading S) : Type 0 where
+    pub given : r.given ≡ 0
+    pub ahead : r.ahead ≡ []
+    pub number : r.number ≡ 0
+
   -- the bytes up to the first newline were put after a line, or all where there is none
   abbrev pub Takes : LineReading S → LineReading S → Bool → Type 0
   Takes old new true =

@@ -1,7 +1,6 @@
 //! A session, read line by line.
-ghost use Rattle.std.specs.Prelude.{◌≡◌, ◌<◌, ◌≤◌, ◌+◌, ℕ, List, [], length, Err, Ok, true, false};
-ghost use Rattle.std.specs.Prelude.{IfErr, OnOk, IfOk};
-ghost use Rattle.rec_container.specs.Causes.{HasCause};
+ghost use Rattle.std.specs.Prelude.{◌≡◌, ◌<◌, ◌≤◌, ◌+◌, ℕ, List, [], length, Ok, true, false};
+ghost use Rattle.std.specs.Prelude.{IfErr, IfOk};
 ghost use Rattle.rec_container.specs.declared.within.ReadError.TheVariants.{OutOfMemory};
 ghost use Rattle.rec_codec.specs.LineView.{line_view};
 ghost use Rattle.rec_live_recording.specs.LineReading.{Ends, IsCaused, IsLeft, MissesPiece};
@@ -47,7 +46,9 @@ impl<S: Source> Model for LineReader<S> {
           number = r.number;
         } };
 
-    ghost invariant = { λ r. (r.given ≤ r.limit) × (r.at ≤ length r.piece.items) };
+    // Each line that was read took a byte that was given.
+    ghost invariant = { λ r. (r.given ≤ r.limit) × (r.at ≤ length r.piece.items)
+        × (r.number + length (drop r.at r.piece.items) ≤ r.given) };
 }
 
 impl<S: Source> LineReader<S> {
@@ -99,9 +100,9 @@ impl<S: Source> LineReader<S> {
     /// - `TooLarge` comes where the source gives more bytes than its limit.
     /// - `OutOfMemory` comes where memory runs out.
     pub fn read_line(&mut self) -> Result<bool, ReadError>
-        requires room { self.old.number + length self.old.ahead ≤ self.old.given }
-        ensures room { OnOk result (self.new.number + length self.new.ahead ≤ self.new.given) }
+        ensures within { self.new.number ≤ self.new.limit }
         ensures limit { self.new.limit ≡ self.old.limit }
+        ensures counted { result ≡ Ok true → self.new.number ≡ self.old.number + 1 }
         ensures read { (total : ℕ) (text : List ℕ)
             → IsLeft S.left total text self.old
             → ReadsLine S.left total text self.old self.new result }
@@ -118,7 +119,7 @@ impl<S: Source> LineReader<S> {
 
     /// Moves what was read of a line into it, and returns whether its end was there.
     fn take_line(&mut self) -> Result<bool, ReadError>
-        requires room { self.old.number + length self.old.ahead ≤ self.old.given }
+        ensures room { self.new.number + length self.new.ahead ≤ self.new.given }
         ensures ok { IfOk result (Takes self.old self.new) }
         ensures kept { self.new
             ≡ record self.old {

@@ -4,7 +4,7 @@ use Rattle.std.proofs.lemmas.Result.{err_from_is_err_and}
 use Rattle.rec_container.specs.declared.within.ReadError.{ReadError}
 use Rattle.rec_live_recording.proofs.line_reader.LineReader.read_line.Goals as goal
 use Rattle.rec_live_recording.proofs.LinesRead.{ends_line, goes_on, piece_missed, piece_read}
-use Rattle.rec_live_recording.proofs.LinesRead.{smaller, takes_as, text_ends}
+use Rattle.rec_live_recording.proofs.LinesRead.{ended_counted, smaller, takes_as, text_ends}
 use Rattle.rec_live_recording.specs.LineReading.{LineReading, ReadsPiece}
 
 pub returns-in_err-read_piece-clause-read : goal.returns-in_err-read_piece-clause-read
@@ -102,3 +102,19 @@ returns-clause-read g c = λ total text is.
     let end = ends_line left total text c.pieces.self c.take_line.new.self kept takes
     (i.read total text is) in
     (end.0, end.1, takes.4 ∙ ap (λ n. n + 1) i.number, end.2)
+
+pub returns-then-not-branch-2-clause-counted : goal.returns-then-not-branch-2-clause-counted
+returns-then-not-branch-2-clause-counted g c = λ some.
+    let i = c.pieces.invariant in
+    let takes = takes_as c.pieces.self c.take_line.new.self c.in_ok-take_line.field-0 false
+    c.if-not-branch.true c.in_ok-take_line.ensures.ok in
+    let read = c.in_ok-read_piece.ensures in
+    ended_counted c.read_piece.new.self c.end_line.new.self c.end_line.result some
+    c.end_line.ensures.ended
+    ∙ ap (λ n. n + 1) (ap (λ (r : LineReading _). r.number) read.kept ∙ takes.3 ∙ i.number)
+
+pub returns-clause-counted : goal.returns-clause-counted
+returns-clause-counted g c = λ some.
+    let takes = takes_as c.pieces.self c.take_line.new.self c.in_ok-take_line.field-0 true
+    c.if-not-branch.false c.in_ok-take_line.ensures.ok in
+    takes.4 ∙ ap (λ n. n + 1) c.pieces.invariant.number

@@ -1,0 +1,105 @@
+//! Recordings of sessions whose source or one of whose sinks fails, or that are refused.
+
+use crate::texts::{continued, head, paused};
+use rec_live_recording::{LineReader, RunFiles, record_live};
+use rec_memory_streams::{FailingSink, FailingSource};
+use rec_store::ConstantNamer;
+use std::alloc::{AllocError, Global};
+use std::str;
+use std::test::Fail;
+
+/// What a session's line is.
+#[derive(Clone, Copy)]
+enum Part {
+    Head,
+    Paused,
+    Continued,
+    /// This text.
+    Text(&'static str),
+}
+
+/// A session, what fails, and what comes of it.
+#[derive(Clone, Copy)]
+struct Case<'c> {
+    session: &'c [Part],
+    /// The most bytes that a read gives, or 0 for any number.
+    piece: usize,
+    limit: u64,
+    /// Which read and which writes fail, from 1, or none.
+    source_fails: u64,
+    manifest_fails: u64,
+    store_fails: u64,
+    log_fails: u64,
+    out_fails: u64,
+    /// How it ends.
+    ended: &'c str,
+    /// The acknowledgements.
+    told: &'c str,
+    /// The lines of the log.
+    logged: &'c [Part],
+}
+
+/// A case of which only this is said.
+const BASE: Case<'static> = Case {
+    session: &[],
+    piece: 0,
+    limit: 10_000,
+    source_fails: 0,
+    manifest_fails: 0,
+    store_fails: 0,
+    log_fails: 0,
+    out_fails: 0,
+    ended: "",
+    told: "",
+    logged: &[],
+};
+
+/// The text of lines.
+fn text_of(alloc: Global, parts: &[Part]) -> Result<String, AllocError> {
+    let mut text = String::new(alloc);
+    for part in parts {
+        text.push_str(match part {
+            Part::Head => head(),
+            Part::Paused => paused(),
+            Part::Continued => continued(),
+            Part::Text(line) => line,
+        })?;
+    }
+    Ok(text)
+}
+
+/// A sink with room, of which a write fails.
+fn sink(alloc: Global, fail_at: u64) -> Result<FailingSink, AllocError> {
+    let mut sink = FailingSink::new(alloc, 0, vec![in alloc; fail_at]?);
+    sink.reserve(8192)?;
+    Ok(sink)
+}
+
+/// What a recording ends with, tells and logs.
+fn found(alloc: Global, case: &Case<'_>) -> Result<String, Fail> {
+    let session = text_of(alloc, case.session)?;
+    let fails = [case.source_fails];
+    let source = FailingSource::new(session.as_bytes(), case.piece, &fails);
+    let mut lines = LineReader::new(alloc, case.limit, source);
+    let files = RunFiles {
+        manifest: sink(alloc, case.manifest_fails)?,
+        store: sink(alloc, case.store_fails)?,
+        log: sink(alloc, case.log_fails)?,
+    };
+    let mut out = sink(alloc, case.out_fails)?;
+    let namer = ConstantNamer { number: 0 };
+    let end = record_live(alloc, &mut lines, files, &namer, 100, &mut out);
+    let told = str::from_utf8(out.bytes()).unwrap_or("no text");
+    let logged = str::from_utf8(end.files.log.bytes()).unwrap_or("no text");
+    match end.result {
+        Ok(count) => Ok(format!(in alloc; "{count}\n{told}{logged}")?),
+        Err(error) => Ok(format!(in alloc; "{error}\n{told}{logged}")?),
+    }
+}
+
+/// What a case says.
+fn wanted(alloc: Global, case: &Case<'_>) -> Result<String, AllocError> {
+    let logged = text_of(alloc, case.logged)?;
+    let Case { ended, told, .. } = case;
+    format!(in alloc; "{ended}\n{told}{logged}")
+}
