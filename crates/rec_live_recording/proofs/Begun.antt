@@ -16,6 +16,15 @@ use Rattle.rec_store.proofs.Accepted.{entries_accepted}
 use Rattle.rec_store.proofs.Adding.{entries_after, with_entries-new}
 use Rattle.rec_store.proofs.StoreTaken.{IsStorable}
 use Rattle.rec_store.proofs.Storing.{sound_store, sound_stores}
+use Rattle.rec_store.specs.declared.error.RunStoreError.TheVariants.{
+  Failed,
+  NotLoadedOutput,
+  NameCollision,
+  CountOutOfRange,
+  StoreWrite,
+  RunLogWrite,
+  OutOfMemory,
+}
 use Rattle.rec_store.specs.declared.error.RunStoreError.{RunStoreError}
 use Rattle.rec_store.specs.Entries.{build_scope_path, cargo_metadata_path, record_opts_path}
 use Rattle.rec_store.specs.Entries.{rerun_info_path, test_list_path}
@@ -25,6 +34,7 @@ use Rattle.rec_store.specs.Recording.{Recording, Stores, Unstored, has_failed}
 use Rattle.rec_store.specs.Saved.{required_paths}
 use Rattle.rec_store.specs.Store.{rerun_entries, store_entries}
 use Rattle.rec_export.proofs.Recorded.{metadata_new}
+use Rattle.rec_export.specs.RecorderFaults.{ComesOfEvent, ComesOfHead}
 use Rattle.rec_live_recording.specs.Recorder.{HasBegun, HasSame}
 
 -- ---- the entries of a head
@@ -121,3 +131,13 @@ module _ {S L N : Type 0} (taken : S → Option (List ℕ)) (faults : S → ℕ)
     namer = ap (λ (r : Recording S L N). r.namer) h.1;
     max_output = ap (λ (r : Recording S L N). r.max_output) h.1;
   }
+
+-- what comes of a head may come of an event
+pub event_too : (e : RunStoreError) → ComesOfHead e → ComesOfEvent e
+event_too Failed h = h
+event_too NotLoadedOutput h = h
+event_too (NameCollision path) h = tt
+event_too CountOutOfRange h = tt
+event_too StoreWrite h = tt
+event_too RunLogWrite h = tt
+event_too OutOfMemory h = tt

@@ -1,6 +1,6 @@
 -- How lines are read from pieces.
 use Rattle.std.proofs.Common.{◌≡◌, ℕ, ◌+◌, ◌-◌, ◌<◌, ◌≤◌, ◌==◌, List, [], ◌∷◌, ◌++◌, length}
-use Rattle.std.proofs.Common.{take, drop, get_or, Bool, true, false, Option, Some, None, Ok, Err}
+use Rattle.std.proofs.Common.{take, drop, get_or, Bool, true, false, Option, Some, None, Result, Ok, Err}
 use Rattle.std.proofs.Common.{nat_lt, if◌then◌else◌, refl, sym, ap, subst, ◌∙◌, arith}
 use Rattle.std.proofs.Common.{append_assoc, append-nil, length-append}
 use Rattle.std.proofs.lemmas.Bool.Decides.{nat_tests}
@@ -9,7 +9,7 @@ use Rattle.std.proofs.lemmas.List.Elements.{All-append, All-nil}
 use Rattle.std.proofs.lemmas.List.Sums.{fails_before_first, passes_at_first, split_at_first}
 use Rattle.std.proofs.lemmas.List.{length-drop, take_all}
 use Rattle.std.specs.Io.KnownBytes.{prepend_known}
-use Rattle.std.specs.List.{position, position_or_len, before_first, after_first, All}
+use Rattle.std.specs.List.{position, position_or_len, before_first, after_first}
 use Rattle.rec_container.specs.declared.within.ReadError.TheVariants.{
   SourceFault,
   TooLarge,
@@ -233,6 +233,20 @@ smaller limit given limit' given' count same more some within =
 
 -- a line that was ended is one more
 pub ended_counted : {S : Type 0} (old new : LineReading S) (some : Bool)
-    → Ok {E = ReadError} some ≡ Ok true → Ends old new some → new.number ≡ old.number + 1
+    → ◌≡◌ {A = Result Bool ReadError} (Ok some) (Ok true) → Ends old new some
+    → new.number ≡ old.number + 1
 ended_counted old new true h ends = ends.1
 ended_counted old new false h ends = absurd (let k = h in cc)
+
+pub ended_within : {S : Type 0} (old new : LineReading S) (some : Bool)
+    → new ≡ record old { number = new.number } → Ends old new some
+    → old.number + length old.line ≤ old.given → old.given ≤ old.limit → new.number ≤ new.limit
+ended_within old new true kept ends room within =
+    let limit = ap (λ (r : LineReading _). r.limit) kept in
+    let line = ends.0 in
+    let number = ends.1 in
+    omega (arith, limit, line, number, room, within)
+ended_within old new false kept ends room within =
+    let limit = ap (λ (r : LineReading _). r.limit) kept in
+    let number = ends.1 in
+    omega (arith, limit, number, room, within)

@@ -1,6 +1,6 @@
 //! A session, read line by line.
 ghost use Rattle.std.specs.Prelude.{◌≡◌, ◌<◌, ◌≤◌, ◌+◌, ℕ, List, [], length, Ok, true, false};
-ghost use Rattle.std.specs.Prelude.{IfErr, IfOk};
+ghost use Rattle.std.specs.Prelude.{IfErr, IfOk, OnOk};
 ghost use Rattle.rec_container.specs.declared.within.ReadError.TheVariants.{OutOfMemory};
 ghost use Rattle.rec_codec.specs.LineView.{line_view};
 ghost use Rattle.rec_live_recording.specs.LineReading.{Ends, IsCaused, IsLeft, MissesPiece};
@@ -100,7 +100,7 @@ impl<S: Source> LineReader<S> {
     /// - `TooLarge` comes where the source gives more bytes than its limit.
     /// - `OutOfMemory` comes where memory runs out.
     pub fn read_line(&mut self) -> Result<bool, ReadError>
-        ensures within { self.new.number ≤ self.new.limit }
+        ensures within { OnOk result (self.new.number ≤ self.new.limit) }
         ensures limit { self.new.limit ≡ self.old.limit }
         ensures counted { result ≡ Ok true → self.new.number ≡ self.old.number + 1 }
         ensures read { (total : ℕ) (text : List ℕ)
@@ -196,7 +196,8 @@ impl<S: Source> LineReader<S> {
 
     /// Ends the last line, where it isn't empty, and returns whether it is one.
     fn end_line(&mut self) -> bool
-        requires room { self.old.number + length self.old.line ≤ self.old.given }
+        requires room { self.old.number + length self.old.line + length self.old.ahead
+            ≤ self.old.given }
         ensures kept { self.new ≡ record self.old { number = self.new.number } }
         ensures ended { Ends self.old self.new result }
     {

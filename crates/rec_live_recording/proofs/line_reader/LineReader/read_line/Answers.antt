@@ -1,10 +1,10 @@
-use Rattle.std.proofs.Common.{◌≡◌, ℕ, ◌+◌, ◌≤◌, ◌<◌, List, length, true, false, Ok, ap, refl}
-use Rattle.std.proofs.Common.{sym, subst, ◌∙◌, arith, length-append, Result, Bool}
+use Rattle.std.proofs.Common.{◌≡◌, ◌+◌, length, true, false, Ok, ap}
+use Rattle.std.proofs.Common.{subst, ◌∙◌, arith, length-append, Bool}
 use Rattle.std.proofs.lemmas.Result.{err_from_is_err_and}
-use Rattle.rec_container.specs.declared.within.ReadError.{ReadError}
 use Rattle.rec_live_recording.proofs.line_reader.LineReader.read_line.Goals as goal
 use Rattle.rec_live_recording.proofs.LinesRead.{ends_line, goes_on, piece_missed, piece_read}
-use Rattle.rec_live_recording.proofs.LinesRead.{ended_counted, smaller, takes_as, text_ends}
+use Rattle.rec_live_recording.proofs.LinesRead.{ended_counted, ended_within, smaller}
+use Rattle.rec_live_recording.proofs.LinesRead.{takes_as, text_ends}
 use Rattle.rec_live_recording.specs.LineReading.{LineReading, ReadsPiece}
 
 pub returns-in_err-read_piece-clause-read : goal.returns-in_err-read_piece-clause-read
@@ -75,6 +75,7 @@ pieces-preserved g c =
           read.given ∙ ap (λ (r : LineReading _). r.given + length new.ahead) kept in
           let room = i.room in
           omega (arith, long, number, given, room);
+      within = read.within;
       number = number ∙ i.number;
       limit =
           ap (λ (r : LineReading _). r.limit) read.kept
@@ -118,3 +119,32 @@ returns-clause-counted g c = λ some.
     let takes = takes_as c.pieces.self c.take_line.new.self c.in_ok-take_line.field-0 true
     c.if-not-branch.false c.in_ok-take_line.ensures.ok in
     takes.4 ∙ ap (λ n. n + 1) c.pieces.invariant.number
+
+pub returns-clause-within : goal.returns-clause-within
+returns-clause-within g c =
+    let kept = c.in_ok-take_line.ensures.kept in
+    let room = c.in_ok-take_line.ensures.room in
+    let within = c.pieces.invariant.within in
+    let given = ap (λ (r : LineReading _). r.given) kept in
+    let limit = ap (λ (r : LineReading _). r.limit) kept in
+    omega (arith, room, within, given, limit)
+
+pub returns-then-not-branch-2-clause-within : goal.returns-then-not-branch-2-clause-within
+returns-then-not-branch-2-clause-within g c =
+    let i = c.pieces.invariant in
+    let old = c.pieces.self in
+    let new = c.read_piece.new.self in
+    let kept = c.in_ok-take_line.ensures.kept in
+    let read = c.in_ok-read_piece.ensures in
+    let takes = takes_as old c.take_line.new.self c.in_ok-take_line.field-0 false
+    c.if-not-branch.true c.in_ok-take_line.ensures.ok in
+    let long : length new.line ≡ length old.line + length old.ahead =
+    ap length (ap (λ (r : LineReading _). r.line) read.kept ∙ takes.1)
+    ∙ length-append old.line old.ahead in
+    let number : new.number ≡ old.number = ap (λ (r : LineReading _). r.number) read.kept
+    ∙ takes.3 in
+    let given : new.given ≡ old.given + length new.ahead =
+    read.given ∙ ap (λ (r : LineReading _). r.given + length new.ahead) kept in
+    let room = i.room in
+    ended_within new c.end_line.new.self c.end_line.result c.end_line.ensures.kept
+    c.end_line.ensures.ended (omega (arith, long, number, given, room)) read.within

@@ -6,6 +6,7 @@ use Rattle.rec_live_recording.specs.LineReading.{IsLeft}
 abbrev pub invariant-pieces : goal.invariant-pieces
 invariant-pieces g l = record {
   room : l.self.number + length l.self.line + length l.self.ahead ≤ l.self.given;
+  within : l.self.given ≤ l.self.limit;
   number : l.self.number ≡ l.fn.self.number;
   limit : l.self.limit ≡ l.fn.self.limit;
   faults : g.S.Source.faults l.self.source ≡ g.S.Source.faults l.fn.self.source;
