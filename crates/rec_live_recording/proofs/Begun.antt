@@ -99,7 +99,7 @@ module _ {S L N : Type 0} (taken : S → Option (List ℕ)) (faults : S → ℕ)
   begun head old new is sound empty stored =
       let es = store_entries head in
       let entries : new.store.entries ≡ es =
-      entries_after taken faults old.store new.store es stored.added (sound_store old sound)
+      entries_after taken faults old.store new.store es stored.added
       ∙ ap (λ (l : List Entry). with_entries l es) empty
       ∙ with_entries-new [] es (metadata_new head.build_scope head.rerun_info head.cargo_metadata
       head.test_list head.record_opts) in

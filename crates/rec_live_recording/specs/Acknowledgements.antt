@@ -15,7 +15,7 @@ abbrev pub count_line : ℕ → List ℕ
 count_line count = codes "accepted=" ++ (decimal count ++ 10 ∷ [])
 
 -- the first so many lines: those of 0, 1, ..
-pub count_lines : ℕ → List ℕ
+abbrev pub count_lines : ℕ → List ℕ
 count_lines zero = []
 count_lines (suc lines) = count_lines lines ++ count_line lines
 
