@@ -5,7 +5,9 @@ use Rattle.std.proofs.Common.{◌⊎◌, inl, inr, arith, append-nil, append_ass
 use Rattle.std.specs.Bool.{⊤}
 use Rattle.std.specs.Io.KnownBytes.{Appends}
 use Rattle.std.specs.Option.{option_to_list}
+use Rattle.std.specs.Prelude.{filter_map}
 use Rattle.rec_codec.specs.Event.{LiveEvent, event_line}
+use Rattle.rec_codec.specs.Lines.{lines}
 use Rattle.rec_store.proofs.Adding.{sound_after}
 use Rattle.rec_store.specs.declared.error.RunStoreError.TheVariants.{
   Failed,
@@ -22,11 +24,13 @@ use Rattle.rec_store.specs.Kept.{HavePaths}
 use Rattle.rec_store.specs.Logging.{Logs, Unappended, Unlogged}
 use Rattle.rec_store.specs.Recording.{Recording, has_failed}
 use Rattle.rec_store.specs.Saved.{AreStopped, HasAccepted, required_paths}
+use Rattle.rec_export.proofs.RecordedLines.{events_next}
 use Rattle.rec_live_recording.proofs.Told.{tells_next, tells_part}
 use Rattle.rec_live_recording.specs.Acknowledgements.{Acknowledges, Tells, count_lines}
 use Rattle.rec_live_recording.specs.declared.errors.LiveError.{LiveError}
 use Rattle.rec_live_recording.specs.Live.{Holds, Keeps, RecordsAll, RecordsNext, Stands}
 use Rattle.rec_live_recording.specs.Recorder.{Accepts, HasSame}
+use Rattle.rec_live_recording.specs.Session.{event_of, events_in}
 
 -- ---- a recorder after a call
 
@@ -186,3 +190,19 @@ module _ {S L N O : Type 0} (taken : S → Option (List ℕ)) (log_taken : L →
         accepted = λ some. accepts.accepted events h.accepted;
         metadata = λ some. accepts.metadata h.metadata;
       }
+
+-- ---- the events of a text
+
+-- the event of its first line stands before those of the rest
+pub all_next : (so_far : List LiveEvent) (text line rest : List ℕ)
+    → lines text ≡ line ∷ lines rest
+    → so_far ++ events_in text ≡ (so_far ++ option_to_list (event_of line)) ++ events_in rest
+all_next so_far text line rest first =
+    ap (λ (ls : List (List ℕ)). so_far ++ filter_map event_of ls) first
+    ∙ sym (events_next so_far (event_of line) (events_in rest))
+
+-- a text without bytes has none
+pub no_more : (so_far : List LiveEvent) (text : List ℕ) → text ≡ []
+    → so_far ++ events_in text ≡ so_far
+no_more so_far text none =
+    ap (λ (t : List ℕ). so_far ++ events_in t) none ∙ append-nil so_far
