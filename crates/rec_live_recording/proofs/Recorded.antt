@@ -119,6 +119,21 @@ module _ {S L N O : Type 0} (taken : S → Option (List ℕ)) (log_taken : L →
     metadata = λ some. h.metadata;
   }
 
+  -- where no line was taken whole, nothing is said of the events
+  pub nothing_held : (all : List LiveEvent) (r : Recording S L N) (o : O)
+      → Tells before (out_taken o) 0
+      → Holds taken log_taken out_taken number before all r o
+  nothing_held all r o told = record {
+    lines = 0;
+    told = told;
+    events = [];
+    later = all;
+    first = refl;
+    enough = omega arith;
+    accepted = λ some. absurd (omega (arith, some));
+    metadata = λ some. absurd (omega (arith, some));
+  }
+
   -- a blank line has no event
   pub records_none : (events later : List LiveEvent) (next : Option LiveEvent) (count : ℕ)
       (r : Recording S L N) (o : O) → next ≡ None
@@ -206,3 +221,42 @@ pub no_more : (so_far : List LiveEvent) (text : List ℕ) → text ≡ []
     → so_far ++ events_in text ≡ so_far
 no_more so_far text none =
     ap (λ (t : List ℕ). so_far ++ events_in t) none ∙ append-nil so_far
+
+-- ---- what is left in the files
+
+module _ {S L N O : Type 0} (taken : S → Option (List ℕ)) (log_taken : L → Option (List ℕ))
+    (out_taken : O → Option (List ℕ)) (number : N → List ℕ → ℕ) (namer : N) (m : ℕ)
+    (before : Option (List ℕ)) (all : List LiveEvent) (r : Recording S L N) (o : O)
+    (same_namer : r.namer ≡ namer) (same_limit : r.max_output ≡ m) (log store : Option (List ℕ))
+    (stopped : (events : List LiveEvent) → HasAccepted taken log_taken number events r
+    → HavePaths r.store.entries required_paths
+    → AreStopped (number r.namer) r.max_output events log store) where
+  left_stopped : (events : List LiveEvent) → HasAccepted taken log_taken number events r
+      → HavePaths r.store.entries required_paths → AreStopped (number namer) m events log store
+  left_stopped events accepted metadata =
+      subst (λ (n : N). AreStopped (number n) m events log store) same_namer
+      (subst (λ k. AreStopped (number r.namer) k events log store) same_limit
+      (stopped events accepted metadata))
+
+  -- what holds of the recorder holds of the files
+  pub keeps : (result : Result ℕ LiveError)
+      → RecordsAll taken log_taken out_taken number before all result r o
+      → Keeps (number namer) m all before (out_taken o) log store
+  keeps (Ok count) h = record {
+    lines = length all + 1;
+    told = inl h.0.told;
+    events = all;
+    later = [];
+    first = sym (append-nil all);
+    enough = omega arith;
+    held = λ some. left_stopped all h.0.accepted h.0.metadata;
+  }
+  keeps (Err e) h = record {
+    lines = h.lines;
+    told = h.told;
+    events = h.events;
+    later = h.later;
+    first = h.first;
+    enough = h.enough;
+    held = λ some. left_stopped h.events (h.accepted some) (h.metadata some);
+  }

@@ -15,7 +15,7 @@ record_event-requires-clause-loaded g c =
     let text = text_of c.args.line.bytes.now in
     let read = subst (λ (r : Result LiveEvent LineError).
     AnswersEvent (event_form {S = LiveSpec} live_form) r c.args.line.number text)
-    c.in-Some-Ok.event-is c.in-Some-Ok.ensures.1 in
+    c.in-Some-Ok.field-0-is c.in-Some-Ok.ensures.1 in
     event_is_loaded text c.in-Some-Ok.event read
 
 pub returns-in-Some-Ok-clause-kept : goal.returns-in-Some-Ok-clause-kept
@@ -23,7 +23,7 @@ returns-in-Some-Ok-clause-kept g c = λ before events later h is.
     let text = text_of c.args.line.bytes.now in
     let read = subst (λ (r : Result LiveEvent LineError).
     AnswersEvent (event_form {S = LiveSpec} live_form) r c.args.line.number text)
-    c.in-Some-Ok.event-is c.in-Some-Ok.ensures.1 in
+    c.in-Some-Ok.field-0-is c.in-Some-Ok.ensures.1 in
     let event = line_of_event (λ b. 0) 0 [] 0 text c.in-Some-Ok.event c.in-Some-Ok.ensures.0 read in
     subst (λ (next : Option LiveEvent). RecordsNext g.S.Sink.taken g.L.Sink.taken g.O.Sink.taken
     g.N.OutputNamer.number before events next later c.record_event.result
