@@ -1,12 +1,11 @@
 -- What a recording that goes on has told of its events, and what stands in its files.
-use Rattle.std.specs.Bool.{⊤}
 use Rattle.std.specs.Io.KnownBytes.{Appends}
 use Rattle.std.specs.Option.{option_to_list}
-use Rattle.std.specs.Prelude.{◌≡◌, ℕ, ◌+◌, ◌<◌, ◌≤◌, List, [], ◌∷◌, ◌++◌, length, false}
+use Rattle.std.specs.Prelude.{◌≡◌, ℕ, ◌+◌, ◌<◌, ◌≤◌, List, ◌++◌, length}
 use Rattle.std.specs.Prelude.{Option, Result, Ok, Err}
 use Rattle.rec_codec.specs.Event.{LiveEvent}
 use Rattle.rec_store.specs.Kept.{HavePaths}
-use Rattle.rec_store.specs.Recording.{Recording, has_failed}
+use Rattle.rec_store.specs.Recording.{Recording}
 use Rattle.rec_store.specs.Saved.{AreStopped, HasAccepted, required_paths}
 use Rattle.rec_live_recording.specs.Acknowledgements.{Tells, count_lines}
 use Rattle.rec_live_recording.specs.declared.errors.LiveError.{LiveError}

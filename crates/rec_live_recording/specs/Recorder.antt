@@ -4,7 +4,7 @@ use Rattle.std.specs.Prelude.{◌≡◌, ℕ, List, [], ◌∷◌, ◌++◌, fal
 use Rattle.rec_codec.specs.Event.{LiveEvent}
 use Rattle.rec_live_recording.specs.declared.errors.LiveError.{LiveError}
 use Rattle.rec_store.specs.Kept.{HavePaths}
-use Rattle.rec_store.specs.Recording.{KeepsEntries, Recording, has_failed}
+use Rattle.rec_store.specs.Recording.{Recording, has_failed}
 use Rattle.rec_store.specs.Saved.{HasAccepted, required_paths}
 
 module _ {S L N : Type 0} where

@@ -72,10 +72,7 @@ fn record_head<I: Source, M: Sink, S: Sink, L: Sink, N: OutputNamer>(
 }
 
 /// Reads the head of a session from its first line.
-fn next_head<I: Source>(
-    alloc: Global,
-    lines: &mut LineReader<I>,
-) -> Result<SessionHead, LiveError>
+fn next_head<I: Source>(alloc: Global, lines: &mut LineReader<I>) -> Result<SessionHead, LiveError>
     ensures read { (total : ℕ) (text : List ℕ)
         → IsLeft I.left total text lines.old
         → OnOk result (LeavesLines I.left total text lines.new) }

@@ -25,7 +25,7 @@ fn read(alloc: Global, case: &Case<'_>) -> Result<String, AllocError> {
     let source = FailingSource::new(case.text.as_bytes(), case.piece, &fails);
     let mut reader = LineReader::new(alloc, case.limit, source);
     let mut text = String::new(alloc);
-    loop {
+    for _ in 0..5 {
         match reader.read_line() {
             Ok(true) => add_line(&mut text, &reader)?,
             Ok(false) => {
@@ -38,6 +38,7 @@ fn read(alloc: Global, case: &Case<'_>) -> Result<String, AllocError> {
             }
         }
     }
+    Ok(text)
 }
 
 /// Adds the line that was read last, with its number.

@@ -39,21 +39,6 @@ struct Case<'c> {
     logged: &'c [Part],
 }
 
-/// A case of which only this is said.
-const BASE: Case<'static> = Case {
-    session: &[],
-    piece: 0,
-    limit: 10_000,
-    source_fails: 0,
-    manifest_fails: 0,
-    store_fails: 0,
-    log_fails: 0,
-    out_fails: 0,
-    ended: "",
-    told: "",
-    logged: &[],
-};
-
 /// The text of lines.
 fn text_of(alloc: Global, parts: &[Part]) -> Result<String, AllocError> {
     let mut text = String::new(alloc);
@@ -102,4 +87,153 @@ fn wanted(alloc: Global, case: &Case<'_>) -> Result<String, AllocError> {
     let logged = text_of(alloc, case.logged)?;
     let Case { ended, told, .. } = case;
     format!(in alloc; "{ended}\n{told}{logged}")
+}
+
+const CASES: &[Case<'static>] = &[
+    // Each event is acknowledged.
+    Case {
+        session: &[Part::Head, Part::Paused, Part::Continued],
+        piece: 0,
+        limit: 10000,
+        source_fails: 0,
+        manifest_fails: 0,
+        store_fails: 0,
+        log_fails: 0,
+        out_fails: 0,
+        ended: "2",
+        told: "accepted=0\naccepted=1\naccepted=2\n",
+        logged: &[Part::Paused, Part::Continued],
+    },
+    // A blank line is no event, and a source may give small pieces.
+    Case {
+        session: &[Part::Head, Part::Paused, Part::Text("\n"), Part::Continued],
+        piece: 7,
+        limit: 10000,
+        source_fails: 0,
+        manifest_fails: 0,
+        store_fails: 0,
+        log_fails: 0,
+        out_fails: 0,
+        ended: "2",
+        told: "accepted=0\naccepted=1\naccepted=2\n",
+        logged: &[Part::Paused, Part::Continued],
+    },
+    Case {
+        session: &[],
+        piece: 0,
+        limit: 10000,
+        source_fails: 0,
+        manifest_fails: 0,
+        store_fails: 0,
+        log_fails: 0,
+        out_fails: 0,
+        ended: "line 1 is no head of a session",
+        told: "",
+        logged: &[],
+    },
+    // What was accepted before a line that is refused stays.
+    Case {
+        session: &[Part::Head, Part::Paused, Part::Text("x\n")],
+        piece: 0,
+        limit: 10000,
+        source_fails: 0,
+        manifest_fails: 0,
+        store_fails: 0,
+        log_fails: 0,
+        out_fails: 0,
+        ended: "line 3 is no event",
+        told: "accepted=0\naccepted=1\n",
+        logged: &[Part::Paused],
+    },
+    // The head has more than 500 bytes and fewer than 1000 with the first event's line.
+    Case {
+        session: &[Part::Head, Part::Paused],
+        piece: 500,
+        limit: 10000,
+        source_fails: 3,
+        manifest_fails: 0,
+        store_fails: 0,
+        log_fails: 0,
+        out_fails: 0,
+        ended: "reading the session failed",
+        told: "accepted=0\n",
+        logged: &[],
+    },
+    Case {
+        session: &[Part::Head, Part::Paused],
+        piece: 0,
+        limit: 10,
+        source_fails: 0,
+        manifest_fails: 0,
+        store_fails: 0,
+        log_fails: 0,
+        out_fails: 0,
+        ended: "the session is longer than 10 bytes",
+        told: "",
+        logged: &[],
+    },
+    Case {
+        session: &[Part::Head, Part::Paused],
+        piece: 0,
+        limit: 10000,
+        source_fails: 0,
+        manifest_fails: 1,
+        store_fails: 0,
+        log_fails: 0,
+        out_fails: 0,
+        ended: "writing the manifest failed",
+        told: "",
+        logged: &[],
+    },
+    Case {
+        session: &[Part::Head, Part::Paused],
+        piece: 0,
+        limit: 10000,
+        source_fails: 0,
+        manifest_fails: 0,
+        store_fails: 1,
+        log_fails: 0,
+        out_fails: 0,
+        ended: "writing the store failed",
+        told: "",
+        logged: &[],
+    },
+    // An event whose line isn't there isn't acknowledged.
+    Case {
+        session: &[Part::Head, Part::Paused, Part::Continued],
+        piece: 0,
+        limit: 10000,
+        source_fails: 0,
+        manifest_fails: 0,
+        store_fails: 0,
+        log_fails: 2,
+        out_fails: 0,
+        ended: "writing the log failed",
+        told: "accepted=0\naccepted=1\n",
+        logged: &[Part::Paused],
+    },
+    // One event may stand that wasn't acknowledged.
+    Case {
+        session: &[Part::Head, Part::Paused, Part::Continued],
+        piece: 0,
+        limit: 10000,
+        source_fails: 0,
+        manifest_fails: 0,
+        store_fails: 0,
+        log_fails: 0,
+        out_fails: 2,
+        ended: "writing an acknowledgement failed",
+        told: "accepted=0\n",
+        logged: &[Part::Paused],
+    },
+];
+
+#[test]
+fn recordings_tell_what_stands(rt: HostRuntime) -> Result<(), Fail> {
+    for case in CASES {
+        let found = found(rt.alloc(), case)?;
+        let wanted = wanted(rt.alloc(), case)?;
+        assert!(rt; found == wanted, "{found}, and not {wanted}");
+    }
+    Ok(())
 }

@@ -10,16 +10,14 @@ pub fn head() -> &'static str {
     \"build-scope\":{\"build-kind\":\"cargo\",\"scope\":{}}}\n"
 }
 
-/// The line of an event.
+/// The line of an event, as a log has it.
 pub fn paused() -> &'static str {
-    "{\"timestamp\":{\"secs\":1003,\"nanos\":0,\"offset\":0},\
-    \"elapsed\":{\"secs\":3,\"nanos\":0},\
-    \"kind\":\"run-paused\",\"setup-scripts-running\":0,\"running\":1}\n"
+    "{\"elapsed\":{\"nanos\":0,\"secs\":3},\"kind\":\"run-paused\",\"running\":1,\
+    \"setup-scripts-running\":0,\"timestamp\":{\"nanos\":0,\"offset\":0,\"secs\":1003}}\n"
 }
 
-/// The line of another event.
+/// The line of another event, as a log has it.
 pub fn continued() -> &'static str {
-    "{\"timestamp\":{\"secs\":1006,\"nanos\":0,\"offset\":0},\
-    \"elapsed\":{\"secs\":6,\"nanos\":0},\
-    \"kind\":\"run-continued\",\"setup-scripts-running\":0,\"running\":1}\n"
+    "{\"elapsed\":{\"nanos\":0,\"secs\":6},\"kind\":\"run-continued\",\"running\":1,\
+    \"setup-scripts-running\":0,\"timestamp\":{\"nanos\":0,\"offset\":0,\"secs\":1006}}\n"
 }

@@ -1,15 +1,14 @@
-use Rattle.std.proofs.Common.{◌≡◌, ℕ, ◌++◌, List, [], length, Bool, Ok, Err, Option, Result, ap, subst, sym}
-use Rattle.std.proofs.Common.{◌∙◌, append-nil}
+use Rattle.std.proofs.Common.{◌≡◌, ℕ, ◌++◌, List, length, Bool, Ok, Result, ap, subst, sym}
+use Rattle.std.proofs.Common.{◌∙◌}
 use Rattle.std.proofs.lemmas.Result.{err_from_is_err_and}
 use Rattle.std.specs.Option.{option_to_list}
 use Rattle.rec_codec.specs.Event.{LiveEvent}
 use Rattle.rec_codec.specs.Lines.{NumberedLine}
-use Rattle.rec_codec.specs.LineView.{line_view}
 use Rattle.rec_live_recording.proofs.Recorded.{all_next, holds, no_more, same_then}
 use Rattle.rec_live_recording.proofs.recording.record_events.Goals as goal
 use Rattle.rec_live_recording.specs.declared.errors.LiveError.{LiveError}
 use Rattle.rec_live_recording.specs.LineReading.{ReadsLine}
-use Rattle.rec_live_recording.specs.Live.{Holds, RecordsAll, RecordsNext, Stands}
+use Rattle.rec_live_recording.specs.Live.{Holds, RecordsAll, Stands}
 use Rattle.rec_live_recording.specs.Session.{event_of, events_in}
 
 pub returns-in_err-read_line-clause-kept : goal.returns-in_err-read_line-clause-kept

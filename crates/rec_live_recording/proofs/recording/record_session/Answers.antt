@@ -1,4 +1,4 @@
-use Rattle.std.proofs.Common.{ℕ, [], List, Result, ap, subst, sym, filter_map}
+use Rattle.std.proofs.Common.{ℕ, List, Result, ap, subst, sym, filter_map}
 use Rattle.std.proofs.KnownBytes.{Appends-nil}
 use Rattle.std.proofs.lemmas.Result.{err_from_is_err_and}
 use Rattle.rec_codec.specs.Event.{LiveEvent}
