@@ -145,12 +145,12 @@ const CASES: &[Case<'static>] = &[
         told: "accepted=0\naccepted=1\n",
         logged: &[Part::Paused],
     },
-    // The head has more than 500 bytes and fewer than 1000 with the first event's line.
+    // The head has fewer than 400 bytes, and more than 400 with the line of the event.
     Case {
         session: &[Part::Head, Part::Paused],
-        piece: 500,
+        piece: 400,
         limit: 10000,
-        source_fails: 3,
+        source_fails: 2,
         manifest_fails: 0,
         store_fails: 0,
         log_fails: 0,
