@@ -76,7 +76,7 @@ fn found(alloc: Global, case: &Case<'_>) -> Result<String, Fail> {
     let end = record_live(alloc, &mut lines, files, &namer, 100, &mut out);
     let told = str::from_utf8(out.bytes()).unwrap_or("no text");
     let logged = str::from_utf8(end.files.log.bytes()).unwrap_or("no text");
-    match end.result {
+    match &end.result {
         Ok(count) => Ok(format!(in alloc; "{count}\n{told}{logged}")?),
         Err(error) => Ok(format!(in alloc; "{error}\n{told}{logged}")?),
     }
