@@ -22,5 +22,6 @@ mod trace;
 
 pub use counts::Exported;
 pub use export::record_and_export;
+pub use head::read_head;
 pub use rec_errors::RecordExportError;
 pub use settings::Settings;

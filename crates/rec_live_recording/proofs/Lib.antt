@@ -1,1 +1,4 @@
+mod Begun
 mod LinesRead
+mod Recorded
+mod Told

@@ -19,7 +19,8 @@ use Rattle.rec_container.specs.declared.within.ReadError.TheVariants.{
 use Rattle.rec_container.specs.declared.within.ReadError.{ReadError}
 use Rattle.rec_codec.proofs.LineLemmas.{lines_at, lines_only}
 use Rattle.rec_codec.specs.Lines.{lines}
-use Rattle.rec_live_recording.specs.LineReading.{Ends, IsLeft, IsPart, LineReading, ReadsLine}
+use Rattle.rec_live_recording.specs.LineReading.{Ends, IsFresh, IsLeft, IsPart, LineReading}
+use Rattle.rec_live_recording.specs.LineReading.{ReadsLine}
 use Rattle.rec_live_recording.specs.LineReading.{ReadsPiece, Takes}
 
 -- ---- where a newline is found
@@ -252,3 +253,16 @@ ended_within old new false kept ends room within =
     let limit = ap (λ (r : LineReading _). r.limit) kept in
     let number = ends.1 in
     omega (arith, limit, number, room, within)
+
+-- of a reader that has read nothing all is left that its source has
+pub fresh_left : {S : Type 0} (left : S → Option (List ℕ)) (r : LineReading S) (session : List ℕ)
+    → IsFresh r → left r.source ≡ Some session → IsLeft left (length session) session r
+fresh_left left r session fresh known = record {
+  known =
+      ap (λ a. prepend_known a (left r.source)) fresh.ahead
+      ∙ ap (λ k. prepend_known [] k) known;
+  counted =
+      let given = fresh.given in
+      let none : length r.ahead ≡ 0 = ap length fresh.ahead in
+      omega (arith, given, none);
+}
