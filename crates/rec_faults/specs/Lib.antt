@@ -1,3 +1,4 @@
+pub mod DirectoryCommands
 pub mod FaultLine
 pub mod ReadingLine
 pub mod ReplayLine

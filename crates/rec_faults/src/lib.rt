@@ -6,6 +6,7 @@ mod bundle;
 mod events;
 mod export;
 mod line;
+mod live;
 mod marks;
 mod reading;
 mod refusal;

@@ -14,7 +14,7 @@ use Rattle.rec_export.specs.Bundle.{session_refusal}
 use Rattle.rec_export.specs.declared.settings.Settings.{Settings}
 use Rattle.rec_words.specs.Words.{Asked, recording, tracing, replaying}
 use Rattle.rec_words.specs.Words.{reporting, informing, slotting, rerunning}
-use Rattle.rec_words.specs.Words.{sampling, upgrading, salvaging, help, version}
+use Rattle.rec_words.specs.Words.{sampling, upgrading, salvaging, living, packing, help, version}
 use Rattle.rec_program.specs.Objects.{Objects, SourceGave}
 use Rattle.rec_program.specs.Promises.{Accepts, IsBundle, IsValid, Judges, Shows, Succeeds}
 use Rattle.rec_program.specs.Salvaging.{stopped_with}
@@ -24,7 +24,7 @@ reported : (events : List PlainEvent) (r : SlotReport) → Reports events (Ok r)
 reported events r p =
     record { accepted = p.1; one = p.0.run.one; inside = p.2; steady = p.3 }
 
-module _ {S B T G : Type 0} (o : Objects S B T G) (bytes : List ℕ) where
+module _ {S B F D T G : Type 0} (o : Objects S B F D T G) (bytes : List ℕ) where
   given_is : (limit : ℕ) (given : List ℕ) → o.source.left o.s0 ≡ Some bytes
       → SourceGave o limit given → given ≡ bytes
   given_is limit given has gave =
@@ -95,5 +95,6 @@ module _ {S B T G : Type 0} (o : Objects S B T G) (bytes : List ℕ) where
           (r.2, r.6.entries, r.5, r.6.prefix, r.6.sound),
         ),
       )
+  only_accepted number (living path settings) has s = absurd has
   only_accepted number help has s = tt
   only_accepted number version has s = tt

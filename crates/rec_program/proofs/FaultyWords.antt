@@ -13,10 +13,11 @@ use Rattle.rec_words.specs.declared.usage.TheConstants.{USAGE}
 use Rattle.rec_words.specs.Usage.{versions_text}
 use Rattle.rec_words.specs.Words.{Asked, recording, tracing, replaying}
 use Rattle.rec_words.specs.Words.{reporting, informing, slotting, rerunning}
-use Rattle.rec_words.specs.Words.{sampling, upgrading, salvaging, help, version}
+use Rattle.rec_words.specs.Words.{sampling, upgrading, salvaging, living, help, version}
+use Rattle.rec_faults.specs.DirectoryCommands.{live_status}
 use Rattle.rec_faults.specs.Status.{export_status, reading_status}
 use Rattle.rec_faults.specs.WritingCommands.{upgrade_status}
-use Rattle.rec_program.proofs.StatusesAbove.{export_above, reading_above}
+use Rattle.rec_program.proofs.StatusesAbove.{export_above, live_above, reading_above}
 use Rattle.rec_program.proofs.WritingCommands.{refusal_above, upgrade_above}
 use Rattle.rec_program.specs.BundleTraces.{PrintsTrace}
 use Rattle.rec_program.specs.Counts.{counts_line}
@@ -24,7 +25,7 @@ use Rattle.rec_program.specs.Objects.{Objects}
 use Rattle.rec_program.specs.Running.{Prints, Runs, ShowsReading}
 use Rattle.rec_program.specs.Salvaging.{refusal_status}
 
-module _ {S B T G : Type 0} (o : Objects S B T G) (status : ℕ) where
+module _ {S B F D T G : Type 0} (o : Objects S B F D T G) (status : ℕ) where
   -- the status is another than 2
   above : (n : ℕ) → 2 < n → status ≡ n → status ≡ 2 → ⊥
   above n over same two = omega (arith, over, same, two)
@@ -68,6 +69,9 @@ module _ {S B T G : Type 0} (o : Objects S B T G) (status : ℕ) where
   asks number (salvaging path settings) (inl (s, shows, inr f)) = above 10 (omega arith) f.3.0
   asks number (salvaging path settings) (inr r) =
       above (refusal_status r.0) (refusal_above r.0) r.4.0
+  asks number (living path settings) (inl r, kept) = zeroed r.2
+  asks number (living path settings) (inr r, kept) =
+      above (live_status r.0) (live_above r.0) r.2.0
   asks number help r = prints USAGE.now r.0
   asks number version r = prints versions_text r.0
 

@@ -16,7 +16,7 @@ use Rattle.rec_export.specs.Bundle.{AreOf, session_refusal}
 use Rattle.rec_export.specs.declared.settings.Settings.{Settings}
 use Rattle.rec_words.specs.Words.{Asked, recording, tracing, replaying}
 use Rattle.rec_words.specs.Words.{reporting, informing, slotting, rerunning}
-use Rattle.rec_words.specs.Words.{sampling, upgrading, salvaging, help, version}
+use Rattle.rec_words.specs.Words.{sampling, upgrading, salvaging, living, packing, help, version}
 use Rattle.rec_faults.specs.Status.{export_status}
 use Rattle.rec_program.proofs.AcceptedBytes.{only_accepted}
 use Rattle.rec_program.proofs.Commands.{bundle_printed, info_is, info_or_memory, log_timeline}
@@ -25,6 +25,7 @@ use Rattle.rec_program.proofs.Commands.{report_or_memory, rerun_or_memory, slots
 use Rattle.rec_program.proofs.Commands.{slots_or_memory, trace_is, trace_or_memory}
 use Rattle.rec_program.proofs.RefusedBytes.{only_refused}
 use Rattle.rec_program.proofs.SamplesRecorded.{sampled, sampled_or_memory}
+use Rattle.rec_program.proofs.StatusesAbove.{live_above}
 use Rattle.rec_program.proofs.WritingCommands.{not_salvaged, not_upgraded, salvaged}
 use Rattle.rec_program.proofs.WritingCommands.{salvaged_or_memory, upgraded, upgraded_or_memory}
 use Rattle.rec_program.specs.BundleTraces.{PrintsTrace}
@@ -49,7 +50,7 @@ Fits prints limit makes =
     → prints limit es (Ok text)
     → (found : PortableManifest) × (judged limit es ≡ Ok found) × makes es found text
 
-module _ {S B T G : Type 0} (o : Objects S B T G) (status : ℕ) where
+module _ {S B F D T G : Type 0} (o : Objects S B F D T G) (status : ℕ) where
   shows : (prints : Prints) (settings : Settings) (makes : Makes)
       → Fits prints settings.read_limit makes → status ≡ 0 → ShowsReading o status prints settings
       → Shows o settings makes
@@ -116,13 +117,16 @@ module _ {S B T G : Type 0} (o : Objects S B T G) (status : ℕ) where
       salvaged o.source.left o.source.faults o.bundle.taken o.bundle.faults o.out.taken
       o.out.faults o.diag.taken o.diag.faults settings status o.s0 o.s1 o.b0 o.b1 o.o0 o.o1 o.d0
       o.d1 zeroed runs
+  succeeds number (living path settings) zeroed (inl r, kept) = (r.1.all, r.1.kept)
+  succeeds number (living path settings) zeroed (inr r, kept) =
+      absurd (let above = live_above r.0 in let is = r.2.0 in omega (arith, above, is, zeroed))
   succeeds number help zeroed runs = told _ zeroed runs
   succeeds number version zeroed runs = told _ zeroed runs
 
   -- ---- another status
 
   stops : (number : List ℕ → ℕ) (asked : Asked) → ¬ (status ≡ 0) → Runs o status number (Ok asked)
-      → Stops o asked status
+      → Stops o number asked status
   stops number (upgrading path settings) other runs =
       not_upgraded o.source.left o.source.faults o.bundle.taken o.bundle.faults o.diag.taken
       o.diag.faults settings status o.s0 o.s1 o.b0 o.b1 o.d0 o.d1 other runs.0
@@ -130,6 +134,8 @@ module _ {S B T G : Type 0} (o : Objects S B T G) (status : ℕ) where
       not_salvaged o.source.left o.source.faults o.bundle.taken o.bundle.faults o.out.taken
       o.out.faults o.diag.taken o.diag.faults settings status o.s0 o.s1 o.b0 o.b1 o.o0 o.o1 o.d0
       o.d1 other runs
+  stops number (living path settings) other (inl r, kept) = r.1.kept
+  stops number (living path settings) other (inr r, kept) = r.1.kept
   stops number asked other runs = tt
 
   -- ---- what is accepted
@@ -185,6 +191,8 @@ module _ {S B T G : Type 0} (o : Objects S B T G) (status : ℕ) where
       o.out.faults o.diag.taken o.diag.faults settings status o.s0 o.s1 o.b0 o.b1 o.o0 o.o1 o.d0
       o.d1 bytes a.1.0 a.1.4.1 a.1.4.0 has a.0 a.1.2 a.1.4.2 a.1.4.3 a.1.4.4 well.0 well.1 well.2
       runs
+  completes number (living path settings) bytes has a well runs = absurd a
+  completes number (packing directory path settings) bytes has a well runs = absurd a
   completes number help bytes has a well runs = text_told _ well runs
   completes number version bytes has a well runs = text_told _ well runs
 
@@ -208,7 +216,7 @@ module _ {S B T G : Type 0} (o : Objects S B T G) (status : ℕ) where
     pub succeeded : (asked : Asked) → words ≡ Ok asked → status ≡ 0 → Succeeds o number asked
     succeeded asked is zeroed = succeeds number asked zeroed (asked_runs asked is)
 
-    pub stopped : (asked : Asked) → words ≡ Ok asked → ¬ (status ≡ 0) → Stops o asked status
+    pub stopped : (asked : Asked) → words ≡ Ok asked → ¬ (status ≡ 0) → Stops o number asked status
     stopped asked is other = stops number asked other (asked_runs asked is)
 
     pub accepted : (asked : Asked) (bytes : List ℕ) → words ≡ Ok asked

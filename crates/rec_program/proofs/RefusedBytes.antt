@@ -28,7 +28,7 @@ use Rattle.rec_export.specs.Export.{Undelivered}
 use Rattle.rec_export.specs.Reading.{Unread as NotRead}
 use Rattle.rec_words.specs.Words.{Asked, recording, tracing, replaying}
 use Rattle.rec_words.specs.Words.{reporting, informing, slotting, rerunning}
-use Rattle.rec_words.specs.Words.{sampling, upgrading, salvaging, help, version}
+use Rattle.rec_words.specs.Words.{sampling, upgrading, salvaging, living, packing, help, version}
 use Rattle.rec_faults.specs.Status.{export_status, reading_status}
 use Rattle.rec_faults.specs.WritingCommands.{upgrade_status}
 use Rattle.rec_program.specs.BundleTraces.{PrintsTrace}
@@ -39,7 +39,7 @@ use Rattle.rec_program.specs.Running.{Prints, Runs, ShowsReading}
 use Rattle.rec_program.specs.Salvaging.{SalvagesRun, bundle_refusal, refusal_status}
 use Rattle.rec_program.specs.Statuses.{Refused, Refuses, RefusesSession}
 
-module _ {S B T G : Type 0} (o : Objects S B T G) (status : ℕ) (bytes : List ℕ)
+module _ {S B F D T G : Type 0} (o : Objects S B F D T G) (status : ℕ) (bytes : List ℕ)
     (other : ¬ (status ≡ 0)) (memory : ¬ (status ≡ 70)) where
   given_is : (limit : ℕ) (given : List ℕ) → o.source.left o.s0 ≡ Some bytes
       → SourceGave o limit given → given ≡ bytes
@@ -222,5 +222,6 @@ module _ {S B T G : Type 0} (o : Objects S B T G) (status : ℕ) (bytes : List �
   only_refused number (salvaging path settings) has well (inr (e, kept, b, out, refused)) =
       withheld_so bundle_refusal refusal_status SalvagesRun settings has well.0 (λ most. refl) refl
       e refused.0 kept
+  only_refused number (living path settings) has well runs = absurd has
   only_refused number help has well runs = printed _ well runs.0
   only_refused number version has well runs = printed _ well runs.0

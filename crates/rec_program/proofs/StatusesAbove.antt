@@ -23,6 +23,9 @@ use Rattle.rec_errors.specs.declared.reading_error.ReadingError.TheVariants.{Slo
 use Rattle.rec_errors.specs.declared.reading_error.ReadingError.{ReadingError}
 use Rattle.rec_errors.specs.LineFaults.{line_fault}
 use Rattle.rec_errors.specs.TraceFaults.{trace_fault}
+use Rattle.rec_live_recording.specs.declared.errors.LiveError.TheVariants as live
+use Rattle.rec_live_recording.specs.declared.errors.LiveError.{LiveError}
+use Rattle.rec_faults.specs.DirectoryCommands.{live_status}
 use Rattle.rec_faults.specs.Status.{bundle_status, conversion_status, export_status}
 use Rattle.rec_faults.specs.Status.{junit_status, part_status, reading_status, slots_status}
 
@@ -102,3 +105,10 @@ reading_above (Conversion e) = conversion_above e
 reading_above (Report e) = junit_above e
 reading_above (Slots e) = slots_above e
 reading_above OutOfMemory = lit< tt
+
+pub live_above : (e : LiveError) → 2 < live_status e
+live_above (live.Refused e) = export_above e
+live_above live.ManifestFault = lit< tt
+live_above live.StoreFault = lit< tt
+live_above live.LogFault = lit< tt
+live_above live.OutFault = lit< tt

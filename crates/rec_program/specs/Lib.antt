@@ -1,5 +1,6 @@
 pub mod BundleTraces
 pub mod Counts
+pub mod LiveRuns
 pub mod LogTraces
 pub mod Objects
 pub mod Promises

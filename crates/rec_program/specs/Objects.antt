@@ -6,41 +6,56 @@ use Rattle.rec_container.specs.declared.streams.Sink.{Ghosts as Sink}
 use Rattle.rec_container.specs.declared.streams.Source.{Ghosts as Source}
 use Rattle.rec_container.specs.Taking.{TookPart}
 use Rattle.rec_container.specs.Within.{Gave}
+use Rattle.rec_disk.specs.declared.disk.Disk.{Ghosts as Disk}
+use Rattle.rec_live_recording.specs.declared.live.RunFiles.{RunFiles}
+use Rattle.rec_program.specs.declared.streams.Streams.{Streams}
 
--- a source, and the sinks of the bundle, of what is printed and of faults: what each tells of its
--- states, and its state before the run and after it
-pub record Objects (S B T G : Type 0) : Type 1 where
+-- a source, the sinks of the bundle, of a run's files, of what is printed and of faults, and a
+-- disk: what each tells of its states, and its state before the run and after it
+pub record Objects (S B F D T G : Type 0) : Type 1 where
   pub source : Source S
   pub bundle : Sink B
+  pub file : Sink F
+  pub disk : Disk D
   pub out : Sink T
   pub diag : Sink G
   pub s0 : S
   pub s1 : S
   pub b0 : B
   pub b1 : B
+  pub f0 : RunFiles F F F
+  pub f1 : RunFiles F F F
+  pub k0 : D
+  pub k1 : D
   pub o0 : T
   pub o1 : T
   pub d0 : G
   pub d1 : G
 
-abbrev pub lent : {S B T G : Type 0} → Source S → Sink B → Sink T → Sink G → S → S → B → B → T → T
-    → G → G → Objects S B T G
-lent source bundle out diag s0 s1 b0 b1 o0 o1 d0 d1 = record {
+abbrev pub lent : {S B F D T G : Type 0} → Source S → Sink B → Sink F → Disk D → Sink T → Sink G
+    → Streams S B F D T G → Streams S B F D T G → Objects S B F D T G
+lent source bundle file disk out diag old new = record {
   source = source;
   bundle = bundle;
+  file = file;
+  disk = disk;
   out = out;
   diag = diag;
-  s0 = s0;
-  s1 = s1;
-  b0 = b0;
-  b1 = b1;
-  o0 = o0;
-  o1 = o1;
-  d0 = d0;
-  d1 = d1;
+  s0 = old.source;
+  s1 = new.source;
+  b0 = old.bundle;
+  b1 = new.bundle;
+  f0 = old.files;
+  f1 = new.files;
+  k0 = old.disk;
+  k1 = new.disk;
+  o0 = old.out;
+  o1 = new.out;
+  d0 = old.diag;
+  d1 = new.diag;
 }
 
-module _ {S B T G : Type 0} (o : Objects S B T G) where
+module _ {S B F D T G : Type 0} (o : Objects S B F D T G) where
   -- the source was read to its end without a fault, and gave these bytes, within the limit
   abbrev pub SourceGave : ℕ → List ℕ → Type 0
   SourceGave limit bytes = Gave o.source.left o.source.faults limit o.s0 o.s1 bytes

@@ -1,5 +1,6 @@
 -- What the program promises of each command.
 use Rattle.std.specs.Prelude.{◌≡◌, ◌⊎◌, ◌≤◌, ⊤, ℕ, List, length, Option, Some, None, Ok}
+use Rattle.std.specs.Prelude.{Result}
 use Rattle.rec_container.specs.Container.{Entry, IsContainer}
 use Rattle.rec_container.specs.WholePrefixes.{IsWholePrefix}
 use Rattle.rec_format.specs.declared.manifest.PortableManifest.{PortableManifest}
@@ -16,6 +17,7 @@ use Rattle.rec_salvage.specs.Salvages.{Salvages}
 use Rattle.rec_trace.specs.PrintedTimeline.{PrintsTimeline}
 use Rattle.rec_slots.specs.declared.report.SlotReport.{SlotReport}
 use Rattle.rec_slots.specs.Refusals.{Reports}
+use Rattle.rec_errors.specs.declared.words_error.WordsError.{WordsError}
 use Rattle.rec_reading.specs.Listing.{manifest_line, replay_of, report_of}
 use Rattle.rec_reading.specs.LogLines.{log_lines}
 use Rattle.rec_reading.specs.Reruns.{PrintsSelection, RerunParts, rerun_parts_of}
@@ -30,16 +32,17 @@ use Rattle.rec_words.specs.declared.usage.TheConstants.{USAGE}
 use Rattle.rec_words.specs.Usage.{versions_text}
 use Rattle.rec_words.specs.Words.{Asked, recording, tracing, replaying}
 use Rattle.rec_words.specs.Words.{reporting, informing, slotting, rerunning}
-use Rattle.rec_words.specs.Words.{sampling, upgrading, salvaging, help, version}
+use Rattle.rec_words.specs.Words.{sampling, upgrading, salvaging, living, packing, help, version}
 use Rattle.rec_program.specs.BundleTraces.{bundle_trace}
 use Rattle.rec_program.specs.Counts.{counts_line}
+use Rattle.rec_program.specs.LiveRuns.{AcknowledgesAll, KeepsAcknowledged}
 use Rattle.rec_program.specs.LogTraces.{log_refusal, plain_log}
 use Rattle.rec_program.specs.Objects.{Objects, SourceGave, SourceFailed}
 use Rattle.rec_program.specs.Objects.{BundleTook, BundleTookPart, BundleFailed, OutTook, OutFailed}
 use Rattle.rec_program.specs.Salvaging.{StoppedRun, stopped_run}
 use Rattle.rec_program.specs.Samples.{TakesSample, session_counts}
 
-module _ {S B T G : Type 0} (o : Objects S B T G) where
+module _ {S B F D T G : Type 0} (o : Objects S B F D T G) where
   -- The source was read to its end, and its bytes are a bundle within the limits, whose manifest is
   -- judged to be read. `out` took the text that the command makes of it
   abbrev pub Shows : Settings → (List Entry → PortableManifest → List ℕ → Type 0) → Type 0
@@ -93,30 +96,46 @@ module _ {S B T G : Type 0} (o : Objects S B T G) where
   Succeeds number (salvaging path settings) =
       (made : Salvaged) × Rescues settings made × BundleTook o made.bundle
       × OutTook o (counts_line made.events made.outputs)
+  Succeeds number (living path settings) =
+      AcknowledgesAll o.source.left o.file.taken o.out.taken number settings.max_output o.s0 o.f0
+      o.f1 o.o0 o.o1
+      × KeepsAcknowledged o.source.left o.file.taken o.out.taken number settings.max_output o.s0
+      o.f0 o.f1 o.o0 o.o1
   Succeeds number help = OutTook o USAGE.now
   Succeeds number version = OutTook o versions_text
 
   -- What another status says of the bundle's sink: of an upgrade, that it is as it was, or the
   -- status is 10 and it took a proper prefix; of a salvage the same, or the status is 11 and it
-  -- took the whole bundle
-  abbrev pub Stops : Asked → ℕ → Type 0
-  Stops (upgrading path settings) status =
+  -- took the whole bundle. Of a recording that goes on, that its files hold the events that were
+  -- acknowledged
+  abbrev pub Stops : (List ℕ → ℕ) → Asked → ℕ → Type 0
+  Stops number (upgrading path settings) status =
       (o.b1 ≡ o.b0)
       ⊎ ((status ≡ 10) × ((bytes : List ℕ) × (parts : RunParts)
       × SourceGave o settings.session_limit bytes × IsAccepted bytes settings.read_limit parts
       × BundleTookPart o (written parts)))
-  Stops (salvaging path settings) status =
+  Stops number (salvaging path settings) status =
       (o.b1 ≡ o.b0)
       ⊎ ((made : Salvaged) × Rescues settings made
       × (((status ≡ 11) × BundleTook o made.bundle)
       ⊎ ((status ≡ 10) × BundleTookPart o made.bundle)))
-  Stops asked status = ⊤
+  Stops number (living path settings) status =
+      KeepsAcknowledged o.source.left o.file.taken o.out.taken number settings.max_output o.s0 o.f0
+      o.f1 o.o0 o.o1
+  Stops number asked status = ⊤
+
+  -- only a recording that goes on changes a run's files, and only `pack` the disk
+  abbrev pub LeavesFiles : Result Asked WordsError → Type 0
+  LeavesFiles (Ok (living path settings)) = o.k1 ≡ o.k0
+  LeavesFiles (Ok (packing directory path settings)) = o.f1 ≡ o.f0
+  LeavesFiles words = (o.f1 ≡ o.f0) × (o.k1 ≡ o.k0)
 
 -- ---- which bytes a command accepts
 
 -- the bytes that a command judges: those that the source has left, or the session that it makes
 abbrev pub Judges : Asked → Option (List ℕ) → List ℕ → Type 0
 Judges (sampling n path settings) left bytes = bytes ≡ sample_session n
+Judges (living path settings) left bytes = ⊥
 Judges help left bytes = ⊤
 Judges version left bytes = ⊤
 Judges asked left bytes = left ≡ Some bytes
@@ -160,10 +179,12 @@ Accepts number (salvaging path settings) bytes =
     × (stopped_run settings.read_limit es ≡ Ok stopped) × IsWholePrefix stopped.store prefix
     × (prefix_refusal prefix ≡ None))
     bytes
+Accepts number (living path settings) bytes = ⊥
+Accepts number (packing directory path settings) bytes = ⊥
 Accepts number help bytes = ⊤
 Accepts number version bytes = ⊤
 
-module _ {S B T G : Type 0} (o : Objects S B T G) where
+module _ {S B F D T G : Type 0} (o : Objects S B F D T G) where
   -- none of the objects that a command uses failed
   abbrev pub Undisturbed : Asked → Type 0
   Undisturbed (recording path settings) =

@@ -23,11 +23,14 @@ use Rattle.rec_sample.specs.Session.{sample_session}
 use Rattle.rec_export.specs.declared.counts.Exported.{Exported}
 use Rattle.rec_export.specs.declared.settings.Settings.{Settings}
 use Rattle.rec_export.specs.Export.{Exports, Fails}
+use Rattle.rec_live_recording.specs.declared.errors.LiveError.{LiveError}
+use Rattle.rec_live_recording.specs.declared.live.RunFiles.{RunFiles}
 use Rattle.rec_words.specs.declared.usage.TheConstants.{USAGE}
 use Rattle.rec_words.specs.Usage.{versions_text}
 use Rattle.rec_words.specs.Words.{Asked, recording, tracing, replaying}
 use Rattle.rec_words.specs.Words.{reporting, informing, slotting, rerunning}
-use Rattle.rec_words.specs.Words.{sampling, upgrading, salvaging, help, version}
+use Rattle.rec_words.specs.Words.{sampling, upgrading, salvaging, living, help, version}
+use Rattle.rec_faults.specs.DirectoryCommands.{live_shown, live_status}
 use Rattle.rec_faults.specs.FaultLine.{Shown, export_shown, line, sink_shown, words_shown}
 use Rattle.rec_faults.specs.ReadingLine.{reading_shown}
 use Rattle.rec_faults.specs.Status.{export_status, reading_status, words_status}
@@ -37,6 +40,7 @@ use Rattle.rec_program.specs.BundleTraces.{PrintsTrace}
 use Rattle.rec_program.specs.Counts.{counts_line}
 use Rattle.rec_program.specs.declared.salvage_refusal.SalvageRefusal.TheVariants.{BundleFailed}
 use Rattle.rec_program.specs.declared.salvage_refusal.SalvageRefusal.{SalvageRefusal}
+use Rattle.rec_program.specs.LiveRuns.{Lives}
 use Rattle.rec_program.specs.Objects.{Objects}
 use Rattle.rec_program.specs.ReadingCommands.{Shows, Withholds}
 use Rattle.rec_program.specs.Salvaging.{SalvagesRun, bundle_refusal, refusal_shown, refusal_status}
@@ -151,7 +155,19 @@ module _ {S B T G : Type 0} (left : S → Option (List ℕ)) (source_faults : S 
       source_faults settings.session_limit s0 s1 e × (b1 ≡ b0) × (o1 ≡ o0)
       × Refuses refusal_shown refusal_status diag_taken diag_faults e status d0 d1)
 
-module _ {S B T G : Type 0} (o : Objects S B T G) (status : ℕ) where
+module _ {S F T G : Type 0} (left : S → Option (List ℕ)) (file_taken : F → Option (List ℕ))
+    (out_taken : T → Option (List ℕ)) (diag_taken : G → Option (List ℕ)) (diag_faults : G → ℕ)
+    (number : List ℕ → ℕ) where
+  -- the session was recorded into the files while it went on, and nothing is reported; or it
+  -- wasn't to its end, and the cause is the status and is reported
+  abbrev pub RunsLive : ℕ → ℕ → S → RunFiles F F F → RunFiles F F F → T → T → G → G → Type 0
+  RunsLive most status s0 f0 f1 o0 o1 d0 d1 =
+      ((count : ℕ) × Lives left file_taken out_taken number most s0 f0 f1 o0 o1 (Ok count)
+      × (status ≡ 0) × (d1 ≡ d0))
+      ⊎ ((e : LiveError) × Lives left file_taken out_taken number most s0 f0 f1 o0 o1 (Err e)
+      × Refuses live_shown live_status diag_taken diag_faults e status d0 d1)
+
+module _ {S B F D T G : Type 0} (o : Objects S B F D T G) (status : ℕ) where
   -- the same of a command that reads a bundle, and refuses as such commands do; it leaves the
   -- bundle's sink as it was
   abbrev pub ShowsReading : (ℕ → List Entry → Result (List ℕ) ReadingError → Type 0) → Settings
@@ -193,6 +209,10 @@ module _ {S B T G : Type 0} (o : Objects S B T G) (status : ℕ) where
       RunsSalvage o.source.left o.source.faults o.bundle.taken o.bundle.faults o.out.taken
       o.out.faults o.diag.taken o.diag.faults settings status o.s0 o.s1 o.b0 o.b1 o.o0 o.o1 o.d0
       o.d1
+  Runs number (Ok (living path settings)) =
+      RunsLive o.source.left o.file.taken o.out.taken o.diag.taken o.diag.faults number
+      settings.max_output status o.s0 o.f0 o.f1 o.o0 o.o1 o.d0 o.d1
+      × (o.b1 ≡ o.b0)
   Runs number (Ok help) = Tells USAGE.now
   Runs number (Ok version) = Tells versions_text
   Runs number (Err fault) =

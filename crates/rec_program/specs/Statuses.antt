@@ -13,7 +13,7 @@ use Rattle.rec_export.specs.Bundle.{session_refusal}
 use Rattle.rec_export.specs.declared.settings.Settings.{Settings}
 use Rattle.rec_words.specs.Words.{Asked, recording, tracing, replaying}
 use Rattle.rec_words.specs.Words.{reporting, informing, slotting, rerunning}
-use Rattle.rec_words.specs.Words.{sampling, upgrading, salvaging, help, version}
+use Rattle.rec_words.specs.Words.{sampling, upgrading, salvaging, living, packing, help, version}
 use Rattle.rec_faults.specs.Status.{export_status, reading_status}
 use Rattle.rec_faults.specs.WritingCommands.{upgrade_status}
 use Rattle.rec_program.specs.BundleTraces.{PrintsTrace}
@@ -61,5 +61,7 @@ Refuses number (salvaging path settings) =
     Refused settings (λ bytes status. (e : SalvageRefusal)
     × IsMadeOf bundle_refusal SalvagesRun settings.read_limit bytes (Err e)
     × (status ≡ refusal_status e))
+Refuses number (living path settings) = λ bytes status. ⊥
+Refuses number (packing directory path settings) = λ bytes status. ⊥
 Refuses number help = λ bytes status. ⊥
 Refuses number version = λ bytes status. ⊥

@@ -12,7 +12,8 @@ ghost use Rattle.rec_export.specs.declared.settings.Settings.{Settings};
 ghost use Rattle.rec_words.specs.Words.{Asked, command, texts, tracing, upgrading};
 ghost use Rattle.rec_program.specs.Counts.{counts_line};
 ghost use Rattle.rec_program.specs.Objects.{lent};
-ghost use Rattle.rec_program.specs.Promises.{Accepts, IsTold, Judges, Stops, Succeeds, Undisturbed};
+ghost use Rattle.rec_program.specs.Promises.{Accepts, IsTold, Judges, LeavesFiles};
+ghost use Rattle.rec_program.specs.Promises.{Stops, Succeeds, Undisturbed};
 ghost use Rattle.rec_program.specs.Running.{Prints, Records, RecordsSample, Runs, RunsSalvage};
 ghost use Rattle.rec_program.specs.Running.{RunsUpgrade, ShowsMade, WritesSalvage};
 ghost use Rattle.rec_program.specs.Statuses.{Refuses};
@@ -21,8 +22,11 @@ use crate::reading::read_bundle;
 use crate::salvage::{CountedSalvage, salvage_bundle};
 use crate::salvage_refusal::SalvageRefusal;
 use crate::sample::record_sample;
+use crate::streams::{Ended, Streams};
 use crate::trace::Trace;
+use crate::live::{LiveRun, live};
 use rec_container::{Sink, Source, write_all};
+use rec_disk::Disk;
 use rec_export::{Settings, record_and_export};
 use rec_faults::{Refusal, SUCCESS, refuse};
 use rec_portable::laws::readable_bundles_are_upgraded;
@@ -32,7 +36,7 @@ use rec_store::Sha256Namer;
 use rec_words::{Command, USAGE, read_words, versions};
 use std::alloc::Global;
 
-/// Does what the words ask for, and answers the status to end with.
+/// Does what the words ask for, and answers the status to end with, and what it was lent.
 ///
 /// The words don't hold the program's name. With a status other than 0 the cause is one line on
 /// `diag`, which needs no memory. A fault of `diag` cuts the line, and changes no status.
@@ -44,82 +48,91 @@ use std::alloc::Global;
 /// ```
 /// let mut words = Vec::new(alloc);
 /// words.push(String::from_str(alloc, "info")?)?;
-/// let mut source = SliceSource::new(bytes);
-/// let mut bundle = GrowingSink::new(alloc);
-/// let mut out = GrowingSink::new(alloc);
-/// let mut diag = GrowingSink::new(alloc);
-/// let status = run_program(alloc, &words, &mut source, &mut bundle, &mut out, &mut diag);
+/// let streams = Streams {
+///     source: SliceSource::new(bytes),
+///     bundle: GrowingSink::new(alloc),
+///     files: RunFiles {
+///         manifest: GrowingSink::new(alloc),
+///         store: GrowingSink::new(alloc),
+///         log: GrowingSink::new(alloc),
+///     },
+///     disk: MemoryDisk::new(alloc, Vec::new(alloc)),
+///     out: GrowingSink::new(alloc),
+///     diag: GrowingSink::new(alloc),
+/// };
+/// let ended = run_program(alloc, &words, streams);
 /// ```
-pub fn run_program<S: Source, B: Sink, T: Sink, G: Sink>(
+pub fn run_program<S: Source, B: Sink, F: Sink, D: Disk, T: Sink, G: Sink>(
     alloc: Global,
     words: &[String],
-    source: &mut S,
-    bundle: &mut B,
-    out: &mut T,
-    diag: &mut G,
-) -> u8
+    streams: Streams<S, B, F, D, T, G>,
+) -> Ended<S, B, F, D, T, G>
     // What the program does for the words, whatever the status. This is the whole promise: the
     // clauses below follow from it.
-    ensures runs { Runs (lent S.Source B.Sink T.Sink G.Sink source.old source.new
-        bundle.old bundle.new out.old out.new diag.old diag.new)
-        result sha256_number (command (texts words.now)) }
+    ensures runs { Runs (lent S.Source B.Sink F.Sink D.Disk T.Sink G.Sink streams
+        result.streams)
+        result.status sha256_number (command (texts words.now)) }
 
     // With status 0 the objects are as the command's row of `Succeeds` says.
     ensures succeeds { (asked : Asked)
         → command (texts words.now) ≡ Ok asked
-        → result ≡ 0
-        → Succeeds (lent S.Source B.Sink T.Sink G.Sink source.old source.new
-        bundle.old bundle.new out.old out.new diag.old diag.new)
+        → result.status ≡ 0
+        → Succeeds (lent S.Source B.Sink F.Sink D.Disk T.Sink G.Sink streams
+        result.streams)
         sha256_number asked }
 
-    // With another status of `upgrade` or `salvage` the bundle's sink is as the row of `Stops`
-    // says.
+    // With another status of `upgrade`, `salvage` or `live` what they write is as the row of
+    // `Stops` says.
     ensures stops { (asked : Asked)
         → command (texts words.now) ≡ Ok asked
-        → ¬ (result ≡ 0)
-        → Stops (lent S.Source B.Sink T.Sink G.Sink source.old source.new
-        bundle.old bundle.new out.old out.new diag.old diag.new)
-        asked result }
+        → ¬ (result.status ≡ 0)
+        → Stops (lent S.Source B.Sink F.Sink D.Disk T.Sink G.Sink streams
+        result.streams)
+        sha256_number asked result.status }
+
+    // Only `live` changes a run's files, and only `pack` the disk.
+    ensures files { LeavesFiles (lent S.Source B.Sink F.Sink D.Disk T.Sink G.Sink streams
+        result.streams)
+        (command (texts words.now)) }
 
     // Status 2 comes exactly where the words are faulty.
-    ensures faulty_words { (result ≡ 2) ↔ IsErr (command (texts words.now)) }
+    ensures faulty_words { (result.status ≡ 2) ↔ IsErr (command (texts words.now)) }
 
     // Where none of the objects that the command uses failed, bytes that it accepts end with status
     // 0, or with 70 for want of memory.
     ensures completes { (asked : Asked) (bytes : List ℕ)
         → command (texts words.now) ≡ Ok asked
-        → Judges asked (S.left source.old) bytes
+        → Judges asked (S.left streams.source) bytes
         → Accepts sha256_number asked bytes
-        → Undisturbed (lent S.Source B.Sink T.Sink G.Sink source.old source.new
-        bundle.old bundle.new out.old out.new diag.old diag.new)
-        asked
-        → (result ≡ 0) ⊎ (result ≡ 70) }
+        → Undisturbed (lent S.Source B.Sink F.Sink D.Disk T.Sink G.Sink streams
+        result.streams) asked
+        → (result.status ≡ 0) ⊎ (result.status ≡ 70) }
 
     // Status 0 comes only for bytes that the command accepts.
     ensures accepts { (asked : Asked) (bytes : List ℕ)
         → command (texts words.now) ≡ Ok asked
-        → Judges asked (S.left source.old) bytes
-        → result ≡ 0
+        → Judges asked (S.left streams.source) bytes
+        → result.status ≡ 0
         → Accepts sha256_number asked bytes }
 
     // Where none of the objects that the command uses failed, a status other than 0 and 70 comes
     // only for bytes that the command refuses with it.
     ensures refuses { (asked : Asked) (bytes : List ℕ)
         → command (texts words.now) ≡ Ok asked
-        → Judges asked (S.left source.old) bytes
-        → Undisturbed (lent S.Source B.Sink T.Sink G.Sink source.old source.new
-        bundle.old bundle.new out.old out.new diag.old diag.new)
-        asked
-        → ¬ (result ≡ 0)
-        → ¬ (result ≡ 70)
-        → Refuses sha256_number asked bytes result }
+        → Judges asked (S.left streams.source) bytes
+        → Undisturbed (lent S.Source B.Sink F.Sink D.Disk T.Sink G.Sink streams
+        result.streams) asked
+        → ¬ (result.status ≡ 0)
+        → ¬ (result.status ≡ 70)
+        → Refuses sha256_number asked bytes result.status }
 
     // A text about the program takes no memory: it ends with status 0, or with 11 where `out`
     // failed.
     ensures told { (asked : Asked)
         → command (texts words.now) ≡ Ok asked
         → IsTold asked
-        → (result ≡ 0) ⊎ ((result ≡ 11) × Rose (T.faults out.old) (T.faults out.new)) }
+        → (result.status ≡ 0)
+        ⊎ ((result.status ≡ 11) × Rose (T.faults streams.out) (T.faults result.streams.out)) }
 
     // `upgrade` accepts a bundle with a reading, where its versions are read and nothing is too
     // long.
@@ -136,60 +149,91 @@ pub fn run_program<S: Source, B: Sink, T: Sink, G: Sink>(
         → AreOf number recorded session bytes trace
         → settings.group_by ≡ recorded.group_by
         → settings.message_format ≡ recorded.message_format
-        → S.left source.old ≡ Some bytes
-        → result ≡ 0
-        → Appends (T.taken out.old) (T.taken out.new) trace }
+        → S.left streams.source ≡ Some bytes
+        → result.status ≡ 0
+        → Appends (T.taken streams.out) (T.taken result.streams.out) trace }
 {
     // Bundles with a reading aren't refused.
     readable_bundles_are_upgraded();
-    run(alloc, words, source, bundle, out, diag)
+    run(alloc, words, streams)
 }
 
 /// Does what the words ask for, in a call of its own, so that what else [`run_program`] ensures can
 /// rest on it.
-fn run<S: Source, B: Sink, T: Sink, G: Sink>(
+fn run<S: Source, B: Sink, F: Sink, D: Disk, T: Sink, G: Sink>(
     alloc: Global,
     words: &[String],
-    source: &mut S,
-    bundle: &mut B,
-    out: &mut T,
-    diag: &mut G,
-) -> u8
-    ensures { Runs (lent S.Source B.Sink T.Sink G.Sink source.old source.new bundle.old bundle.new
-        out.old out.new diag.old diag.new)
-        result sha256_number (command (texts words.now)) }
+    streams: Streams<S, B, F, D, T, G>,
+) -> Ended<S, B, F, D, T, G>
+    ensures runs { Runs (lent S.Source B.Sink F.Sink D.Disk T.Sink G.Sink streams
+        result.streams)
+        result.status sha256_number (command (texts words.now)) }
+    ensures files { LeavesFiles (lent S.Source B.Sink F.Sink D.Disk T.Sink G.Sink streams
+        result.streams)
+        (command (texts words.now)) }
 {
-    match read_words(words) {
+    let Streams {
+        mut source,
+        mut bundle,
+        files,
+        disk,
+        mut out,
+        mut diag,
+    } = streams;
+    let status = match read_words(words) {
+        Ok(
+            Command::Live {
+                directory: _,
+                settings,
+            },
+        ) => {
+            let LiveRun {
+                status,
+                source,
+                files,
+            } = live(alloc, &settings, source, files, &mut out, &mut diag);
+            return Ended {
+                status,
+                streams: Streams {
+                    source,
+                    bundle,
+                    files,
+                    disk,
+                    out,
+                    diag,
+                },
+            };
+        }
         Ok(
             Command::Record {
                 bundle: _,
                 settings,
             },
-        ) => record(alloc, &settings, source, bundle, out, diag),
+        ) => record(alloc, &settings, &mut source, &mut bundle, &mut out, &mut diag),
         Ok(Command::Trace { settings }) => {
             let printer = Trace {
                 group_by: settings.group_by,
                 message_format: settings.message_format,
             };
-            show(read_bundle(alloc, &settings, source, &printer), out, diag)
+            show(read_bundle(alloc, &settings, &mut source, &printer), &mut out, &mut diag)
         }
         Ok(Command::Replay { output, settings }) => {
             let printer = Replay {
                 load_output: output,
             };
-            show(read_bundle(alloc, &settings, source, &printer), out, diag)
+            show(read_bundle(alloc, &settings, &mut source, &printer), &mut out, &mut diag)
         }
         Ok(Command::Report { settings }) => {
-            show(read_bundle(alloc, &settings, source, &Report), out, diag)
+            show(read_bundle(alloc, &settings, &mut source, &Report), &mut out, &mut diag)
         }
         Ok(Command::Info { settings }) => {
-            show(read_bundle(alloc, &settings, source, &Info), out, diag)
+            show(read_bundle(alloc, &settings, &mut source, &Info), &mut out, &mut diag)
         }
         Ok(Command::Slots { settings }) => {
-            show(read_bundle(alloc, &settings, source, &Slots), out, diag)
+            show(read_bundle(alloc, &settings, &mut source, &Slots), &mut out, &mut diag)
         }
         Ok(Command::Rerun { settings }) => {
-            show(read_bundle(alloc, &settings, source, &Rerun), out, diag)
+            show(read_bundle(alloc, &settings, &mut source, &Rerun), &mut out, &mut diag)
         }
         Ok(
             Command::Sample {
@@ -197,22 +241,33 @@ fn run<S: Source, B: Sink, T: Sink, G: Sink>(
                 bundle: _,
                 settings,
             },
-        ) => sample(alloc, n, &settings, bundle, out, diag),
+        ) => sample(alloc, n, &settings, &mut bundle, &mut out, &mut diag),
         Ok(
             Command::Upgrade {
                 bundle: _,
                 settings,
             },
-        ) => upgrade_bundle(alloc, &settings, source, bundle, diag),
+        ) => upgrade_bundle(alloc, &settings, &mut source, &mut bundle, &mut diag),
         Ok(
             Command::Salvage {
                 bundle: _,
                 settings,
             },
-        ) => salvage(alloc, &settings, source, bundle, out, diag),
-        Ok(Command::Help) => print(USAGE.as_bytes(), out, diag),
-        Ok(Command::Version) => print(versions().as_bytes(), out, diag),
-        Err(fault) => refuse(fault, diag),
+        ) => salvage(alloc, &settings, &mut source, &mut bundle, &mut out, &mut diag),
+        Ok(Command::Help) => print(USAGE.as_bytes(), &mut out, &mut diag),
+        Ok(Command::Version) => print(versions().as_bytes(), &mut out, &mut diag),
+        Err(fault) => refuse(fault, &mut diag),
+    };
+    Ended {
+        status,
+        streams: Streams {
+            source,
+            bundle,
+            files,
+            disk,
+            out,
+            diag,
+        },
     }
 }
 

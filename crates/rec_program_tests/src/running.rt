@@ -1,7 +1,8 @@
 //! Runs the program over streams that fail, and shows what it did as a text.
 
+use rec_disk::MemoryDisk;
 use rec_memory_streams::{FailingSink, FailingSource};
-use rec_program::run_program;
+use rec_program::{Ended, RunFiles, Streams, run_program};
 use std::alloc::{AllocError, Global};
 use std::str;
 
@@ -86,6 +87,11 @@ fn words_in(alloc: Global, text: &str) -> Result<Vec<String>, AllocError> {
     Ok(words)
 }
 
+/// A sink of which no call fails.
+fn sound_sink(alloc: Global) -> FailingSink {
+    FailingSink::new(alloc, 0, Vec::new(alloc))
+}
+
 /// Runs the program over these bytes in such pieces, of which a read fails, and returns the status.
 fn run(
     alloc: Global,
@@ -93,18 +99,27 @@ fn run(
     bytes: &[u8],
     piece: usize,
     failed_read: u64,
-    sinks: &mut Sinks,
-) -> u8 {
+    sinks: Sinks,
+) -> (u8, Sinks) {
     let fail_at = [failed_read];
-    let mut source = FailingSource::new(bytes, piece, &fail_at);
-    run_program(
-        alloc,
-        words,
-        &mut source,
-        &mut sinks.bundle,
-        &mut sinks.out,
-        &mut sinks.diag,
-    )
+    let Sinks { bundle, out, diag } = sinks;
+    let streams = Streams {
+        source: FailingSource::new(bytes, piece, &fail_at),
+        bundle,
+        files: RunFiles {
+            manifest: sound_sink(alloc),
+            store: sound_sink(alloc),
+            log: sound_sink(alloc),
+        },
+        disk: MemoryDisk::new(alloc, Vec::new(alloc)),
+        out,
+        diag,
+    };
+    let Ended { status, streams } = run_program(alloc, words, streams);
+    let Streams {
+        bundle, out, diag, ..
+    } = streams;
+    (status, Sinks { bundle, out, diag })
 }
 
 /// The status, how many bytes the bundle and standard output took, and the line. Each took the
@@ -132,10 +147,10 @@ pub(crate) fn outcome(
 ) -> Result<String, AllocError> {
     let words = words_in(alloc, text)?;
     let faults = one_fault(stream, call);
-    let mut sound = failing_sinks(alloc, 0, SOUND)?;
-    let mut failing = failing_sinks(alloc, piece, faults)?;
-    run(alloc, &words, bytes, 0, 0, &mut sound);
-    let status = run(alloc, &words, bytes, piece, faults.read, &mut failing);
+    let sound = failing_sinks(alloc, 0, SOUND)?;
+    let failing = failing_sinks(alloc, piece, faults)?;
+    let (_, sound) = run(alloc, &words, bytes, 0, 0, sound);
+    let (status, failing) = run(alloc, &words, bytes, piece, faults.read, failing);
     let outcome = shown(alloc, status, &failing, &sound);
     drop(failing);
     drop(sound);

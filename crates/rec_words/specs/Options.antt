@@ -23,6 +23,7 @@ use Rattle.rec_export.specs.declared.settings.Settings.{Settings}
 use Rattle.rec_export.specs.Settings.{default_settings}
 use Rattle.rec_words.specs.declared.options.CommandName.TheVariants.{Record, Trace, Replay}
 use Rattle.rec_words.specs.declared.options.CommandName.TheVariants.{Sample, Upgrade, Salvage}
+use Rattle.rec_words.specs.declared.options.CommandName.TheVariants.{Live, Pack}
 use Rattle.rec_words.specs.declared.options.CommandName.{CommandName}
 use Rattle.rec_words.specs.declared.options.OptionName.TheVariants.{GroupBy, MessageFormat}
 use Rattle.rec_words.specs.declared.options.OptionName.TheVariants.{MaxOutput, ReadLimit}
@@ -52,6 +53,7 @@ draws command = false
 abbrev pub records : CommandName → Bool
 records Record = true
 records Sample = true
+records Live = true
 records command = false
 
 -- the command that replays events
@@ -59,13 +61,19 @@ abbrev pub replays : CommandName → Bool
 replays Replay = true
 replays command = false
 
+-- the commands that take the limit of what is read of a bundle: all but those of a run's directory
+abbrev pub reads_bundle : CommandName → Bool
+reads_bundle Live = false
+reads_bundle Pack = false
+reads_bundle command = true
+
 -- which commands take an option
 abbrev pub takes : CommandName → OptionName → Bool
 takes command GroupBy = draws command
 takes command MessageFormat = draws command
 takes command MaxOutput = records command
 takes command Output = replays command
-takes command ReadLimit = true
+takes command ReadLimit = reads_bundle command
 takes command SessionLimit = true
 
 -- the index of the word at which the options of a command begin:
@@ -75,6 +83,8 @@ options_at Record = 2
 options_at Sample = 3
 options_at Upgrade = 2
 options_at Salvage = 2
+options_at Live = 2
+options_at Pack = 3
 options_at command = 1
 
 -- the number that one or more decimal digits write, where it fits 64 bits

@@ -17,6 +17,7 @@ use Rattle.rec_export.specs.declared.settings.Settings.{Settings}
 use Rattle.rec_words.specs.declared.options.CommandName.TheVariants.{Record, Trace, Replay}
 use Rattle.rec_words.specs.declared.options.CommandName.TheVariants.{Report, Info, Slots, Rerun}
 use Rattle.rec_words.specs.declared.options.CommandName.TheVariants.{Sample, Upgrade, Salvage}
+use Rattle.rec_words.specs.declared.options.CommandName.TheVariants.{Live, Pack}
 use Rattle.rec_words.specs.declared.options.CommandName.{CommandName}
 use Rattle.rec_words.specs.declared.words.BundleWords.{BundleWords}
 use Rattle.rec_words.specs.declared.words.Command.TheVariants as commands
@@ -27,6 +28,7 @@ use Rattle.rec_words.specs.Options.{settings_of, tests_of, values_from}
 -- what words ask for: a recording into a bundle at a path; the trace of a bundle, its events, its
 -- reports, what its manifest says, how its slots were used, or which tests to run again; a
 -- recording of a generated session of so many tests; a bundle upgraded, or what is salvaged of it,
+-- at a path; a recording into a directory while the run goes on, or the bundle of such a directory
 -- at a path; or a text about the program
 pub data Asked : Type 0 where
   recording : List ℕ → Settings → Asked
@@ -39,6 +41,8 @@ pub data Asked : Type 0 where
   sampling : ℕ → List ℕ → Settings → Asked
   upgrading : List ℕ → Settings → Asked
   salvaging : List ℕ → Settings → Asked
+  living : List ℕ → Settings → Asked
+  packing : List ℕ → List ℕ → Settings → Asked
   help : Asked
   version : Asked
 
@@ -59,6 +63,8 @@ asked (commands.Rerun settings) = rerunning settings
 asked (commands.Sample n bundle settings) = sampling n bundle.now settings
 asked (commands.Upgrade bundle settings) = upgrading bundle.now settings
 asked (commands.Salvage bundle settings) = salvaging bundle.now settings
+asked (commands.Live directory settings) = living directory.now settings
+asked (commands.Pack directory bundle settings) = packing directory.now bundle.now settings
 asked commands.Help = help
 asked commands.Version = version
 
@@ -79,9 +85,11 @@ command_named word =
     else if bytes_eq word (codes "sample") then Some Sample
     else if bytes_eq word (codes "upgrade") then Some Upgrade
     else if bytes_eq word (codes "salvage") then Some Salvage
+    else if bytes_eq word (codes "live") then Some Live
+    else if bytes_eq word (codes "pack") then Some Pack
     else None
 
--- the words after a command that takes a bundle alone: its path, and the options
+-- the words after a command that takes one path alone: the path, and the options
 abbrev pub bundle_after : CommandName → List (List ℕ) → Result BundleAsked WordsError
 bundle_after name [] = Err (MissingPositional 1)
 bundle_after name (bundle ∷ words) =
@@ -93,6 +101,13 @@ abbrev pub sample_after : ℕ → List (List ℕ) → Result Asked WordsError
 sample_after n [] = Err (MissingPositional 2)
 sample_after n (bundle ∷ words) =
     settings_from Sample words >>= (λ settings. Ok (sampling n bundle settings))
+
+-- what `pack` asks for with the words after the directory: the path of the bundle, and then its
+-- options
+abbrev pub pack_after : List ℕ → List (List ℕ) → Result Asked WordsError
+pack_after directory [] = Err (MissingPositional 2)
+pack_after directory (bundle ∷ words) =
+    settings_from Pack words >>= (λ settings. Ok (packing directory bundle settings))
 
 -- what a command asks for with the words after its name: its positional words, and then its options
 abbrev pub command_after : CommandName → List (List ℕ) → Result Asked WordsError
@@ -110,6 +125,9 @@ command_after Sample (number ∷ words) =
     ok_or (tests_of number) (BadNumber 1) >>= (λ n. sample_after n words)
 command_after Upgrade words = bundle_after Upgrade words >>= (λ b. Ok (upgrading b.path b.settings))
 command_after Salvage words = bundle_after Salvage words >>= (λ b. Ok (salvaging b.path b.settings))
+command_after Live words = bundle_after Live words >>= (λ b. Ok (living b.path b.settings))
+command_after Pack [] = Err (MissingPositional 1)
+command_after Pack (directory ∷ words) = pack_after directory words
 
 -- what a word asks for that is the name of no such command, with the words after it
 abbrev pub other_command : List ℕ → List (List ℕ) → Result Asked WordsError
@@ -149,8 +167,18 @@ bundle_asked (recording bundle settings) = Some bundle
 bundle_asked (sampling n bundle settings) = Some bundle
 bundle_asked (upgrading bundle settings) = Some bundle
 bundle_asked (salvaging bundle settings) = Some bundle
+bundle_asked (packing directory bundle settings) = Some bundle
 bundle_asked asked = None
 
 abbrev pub bundle_of : Result Asked WordsError → Option (List ℕ)
 bundle_of (Ok asked) = bundle_asked asked
 bundle_of (Err fault) = None
+
+-- the directory that a run is recorded into while it goes on
+abbrev pub directory_asked : Asked → Option (List ℕ)
+directory_asked (living directory settings) = Some directory
+directory_asked asked = None
+
+abbrev pub directory_of : Result Asked WordsError → Option (List ℕ)
+directory_of (Ok asked) = directory_asked asked
+directory_of (Err fault) = None

@@ -8,4 +8,4 @@ mod words;
 
 pub use rec_errors::WordsError;
 pub use usage::{USAGE, versions};
-pub use words::{Command, bundle_path, read_words};
+pub use words::{Command, bundle_path, directory_path, read_words};

@@ -2,8 +2,9 @@
 ghost use Rattle.std.specs.Prelude.{◌≡◌, ◌≤◌, IfSome};
 ghost use Rattle.rec_words.specs.Options.{draws, group_by_of, has_come, load_of, message_format_of};
 ghost use Rattle.rec_words.specs.Options.{new_option, no_values, number_of, option_named};
-ghost use Rattle.rec_words.specs.Options.{options_at, output_of, records, replays, settings_from};
-ghost use Rattle.rec_words.specs.Options.{settings_of, takes, tests_of, values_from, with_value};
+ghost use Rattle.rec_words.specs.Options.{options_at, output_of, reads_bundle, records, replays};
+ghost use Rattle.rec_words.specs.Options.{settings_from, settings_of, takes, tests_of};
+ghost use Rattle.rec_words.specs.Options.{values_from, with_value};
 ghost use Rattle.rec_words.specs.Words.{texts};
 
 use rec_errors::WordsError;
@@ -35,6 +36,10 @@ pub enum CommandName {
     Upgrade,
     /// `salvage`
     Salvage,
+    /// `live`
+    Live,
+    /// `pack`
+    Pack,
 }
 
 impl CommandName {
@@ -46,7 +51,8 @@ impl CommandName {
             OptionName::GroupBy | OptionName::MessageFormat => self.draws(),
             OptionName::MaxOutput => self.records(),
             OptionName::Output => self.replays(),
-            OptionName::ReadLimit | OptionName::SessionLimit => true,
+            OptionName::ReadLimit => self.reads_bundle(),
+            OptionName::SessionLimit => true,
         }
     }
 
@@ -62,7 +68,9 @@ impl CommandName {
             | CommandName::Slots
             | CommandName::Rerun
             | CommandName::Upgrade
-            | CommandName::Salvage => false,
+            | CommandName::Salvage
+            | CommandName::Live
+            | CommandName::Pack => false,
         }
     }
 
@@ -71,7 +79,7 @@ impl CommandName {
         ensures { result ≡ records self }
     {
         match self {
-            CommandName::Record | CommandName::Sample => true,
+            CommandName::Record | CommandName::Sample | CommandName::Live => true,
             CommandName::Trace
             | CommandName::Replay
             | CommandName::Report
@@ -79,7 +87,8 @@ impl CommandName {
             | CommandName::Slots
             | CommandName::Rerun
             | CommandName::Upgrade
-            | CommandName::Salvage => false,
+            | CommandName::Salvage
+            | CommandName::Pack => false,
         }
     }
 
@@ -97,7 +106,28 @@ impl CommandName {
             | CommandName::Rerun
             | CommandName::Sample
             | CommandName::Upgrade
-            | CommandName::Salvage => false,
+            | CommandName::Salvage
+            | CommandName::Live
+            | CommandName::Pack => false,
+        }
+    }
+
+    /// Returns whether the command takes the limit of what is read of a bundle.
+    fn reads_bundle(self) -> bool
+        ensures { result ≡ reads_bundle self }
+    {
+        match self {
+            CommandName::Live | CommandName::Pack => false,
+            CommandName::Record
+            | CommandName::Trace
+            | CommandName::Replay
+            | CommandName::Report
+            | CommandName::Info
+            | CommandName::Slots
+            | CommandName::Rerun
+            | CommandName::Sample
+            | CommandName::Upgrade
+            | CommandName::Salvage => true,
         }
     }
 
@@ -106,8 +136,11 @@ impl CommandName {
         ensures { result ≡ options_at self }
     {
         match self {
-            CommandName::Sample => 3,
-            CommandName::Record | CommandName::Upgrade | CommandName::Salvage => 2,
+            CommandName::Sample | CommandName::Pack => 3,
+            CommandName::Record
+            | CommandName::Upgrade
+            | CommandName::Salvage
+            | CommandName::Live => 2,
             CommandName::Trace
             | CommandName::Replay
             | CommandName::Report

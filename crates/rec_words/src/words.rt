@@ -1,11 +1,12 @@
 //! The words of the command line.
 ghost use Rattle.std.specs.Option.{option_map};
 ghost use Rattle.std.specs.Prelude.{◌≡◌, ◌≤◌, IfOk};
-ghost use Rattle.rec_words.specs.declared.options.CommandName.TheVariants.{Record, Replay, Sample};
+ghost use Rattle.rec_words.specs.declared.options.CommandName.TheVariants.{Live, Pack, Record};
+ghost use Rattle.rec_words.specs.declared.options.CommandName.TheVariants.{Replay, Sample};
 ghost use Rattle.rec_words.specs.declared.options.CommandName.TheVariants.{Salvage, Upgrade};
 ghost use Rattle.rec_words.specs.Words.{texts, bundle_after, command, command_after};
-ghost use Rattle.rec_words.specs.Words.{command_named, other_command, bundle_of};
-ghost use Rattle.rec_words.specs.Words.{sample_after, HasTests, Reads, ReadsBundle};
+ghost use Rattle.rec_words.specs.Words.{command_named, directory_of, other_command, bundle_of};
+ghost use Rattle.rec_words.specs.Words.{pack_after, sample_after, HasTests, Reads, ReadsBundle};
 
 use crate::options::{CommandName, read_options, read_settings, tests};
 use rec_errors::WordsError;
@@ -66,6 +67,18 @@ pub enum Command<'w> {
         bundle: &'w str,
         settings: Settings,
     },
+    /// Records the session on standard input into the folder `directory` while the run goes on.
+    Live {
+        directory: &'w str,
+        settings: Settings,
+    },
+    /// Writes the bundle of the run in the folder `directory`, whole or stopped,
+    /// into the file `bundle`.
+    Pack {
+        directory: &'w str,
+        bundle: &'w str,
+        settings: Settings,
+    },
     /// Prints how the program is used.
     Help,
     /// Prints the program's version and those of the formats that it writes.
@@ -107,6 +120,8 @@ fn command_named(word: &str) -> Option<CommandName>
         "sample" => Some(CommandName::Sample),
         "upgrade" => Some(CommandName::Upgrade),
         "salvage" => Some(CommandName::Salvage),
+        "live" => Some(CommandName::Live),
+        "pack" => Some(CommandName::Pack),
         _ => None,
     }
 }
@@ -143,6 +158,8 @@ fn read_command(name: CommandName, words: &[String]) -> Result<Command<'_>, Word
         CommandName::Sample => read_sample(words),
         CommandName::Upgrade => read_upgrade(words),
         CommandName::Salvage => read_salvage(words),
+        CommandName::Live => read_live(words),
+        CommandName::Pack => read_pack(words),
     }
 }
 
@@ -173,13 +190,52 @@ fn read_salvage(words: &[String]) -> Result<Command<'_>, WordsError>
     Ok(Command::Salvage { bundle, settings })
 }
 
-/// Holds the words after a command that takes a bundle alone.
+/// Reads the words after `live`: the directory, and the options.
+fn read_live(words: &[String]) -> Result<Command<'_>, WordsError>
+    ensures reads { Reads result (command_after Live (texts words.now)) }
+    ensures within { IfOk result HasTests }
+{
+    let BundleWords { bundle, settings } = read_bundle_words(CommandName::Live, words)?;
+    Ok(Command::Live {
+        directory: bundle,
+        settings,
+    })
+}
+
+/// Reads the words after `pack`: the directory, the bundle, and the options.
+fn read_pack(words: &[String]) -> Result<Command<'_>, WordsError>
+    ensures reads { Reads result (command_after Pack (texts words.now)) }
+    ensures within { IfOk result HasTests }
+{
+    let Some((directory, others)) = words.split_first() else {
+        return Err(WordsError::MissingPositional { at: 1 });
+    };
+    read_pack_bundle(directory.as_str(), others)
+}
+
+/// Reads the words after the directory of `pack`.
+fn read_pack_bundle<'w>(directory: &'w str, words: &'w [String]) -> Result<Command<'w>, WordsError>
+    ensures reads { Reads result (pack_after directory.now (texts words.now)) }
+    ensures within { IfOk result HasTests }
+{
+    let Some((bundle, options)) = words.split_first() else {
+        return Err(WordsError::MissingPositional { at: 2 });
+    };
+    let settings = read_settings(CommandName::Pack, options)?;
+    Ok(Command::Pack {
+        directory,
+        bundle: bundle.as_str(),
+        settings,
+    })
+}
+
+/// Holds the words after a command that takes one path alone.
 struct BundleWords<'w> {
     bundle: &'w str,
     settings: Settings,
 }
 
-/// Reads the words after a command that takes a bundle alone: the bundle, and the options.
+/// Reads the words after a command that takes one path alone: the path, and the options.
 fn read_bundle_words(name: CommandName, words: &[String]) -> Result<BundleWords<'_>, WordsError>
     ensures { ReadsBundle result (bundle_after name (texts words.now)) }
 {
@@ -272,8 +328,28 @@ pub fn bundle_path(words: &[String]) -> Option<&str>
             | Command::Salvage {
                 bundle,
                 settings: _,
+            }
+            | Command::Pack {
+                directory: _,
+                bundle,
+                settings: _,
             },
         ) => Some(bundle),
+        _ => None,
+    }
+}
+
+/// Returns the directory that a run is recorded into while it goes on, where the words ask for that.
+pub fn directory_path(words: &[String]) -> Option<&str>
+    ensures { option_map (λ path. path.now) result ≡ directory_of (command (texts words.now)) }
+{
+    match read_words(words) {
+        Ok(
+            Command::Live {
+                directory,
+                settings: _,
+            },
+        ) => Some(directory),
         _ => None,
     }
 }

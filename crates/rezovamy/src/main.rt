@@ -3,10 +3,19 @@
 
 ghost use Rattle.std.specs.IoError.{error_kind};
 ghost use Rattle.std.specs.Prelude.{◌≡◌, ◌↔◌, [], IfOk, string_bytes, unwrap_or};
-ghost use Rattle.rec_words.specs.Words.{bundle_of, command, texts};
+ghost use Rattle.rec_words.specs.Words.{bundle_of, command, directory_of, texts};
+
+mod run_file;
 
 use rec_container::{FileSink, Sink, StdSink, StdSource};
-use rec_program::{FAULTY_WORDS, OUT_OF_MEMORY, bundle_path, run_program, write_fault};
+use rec_directory::join;
+use rec_disk::StdDisk;
+use rec_format::{PORTABLE_MANIFEST_FILE_NAME, RUN_LOG_FILE_NAME, STORE_ZIP_FILE_NAME};
+use rec_program::{
+    FAULTY_WORDS, OUT_OF_MEMORY, RunFiles, Streams, bundle_path, directory_path, run_program,
+    write_fault,
+};
+use run_file::RunFileSink;
 use std::alloc::{AllocError, Global};
 use std::io::ErrorKind;
 use std::process::ExitCode;
@@ -48,20 +57,57 @@ fn path_of(alloc: Global, words: &[String]) -> Result<String, AllocError>
     String::from_str(alloc, bundle_path(words).unwrap_or(""))
 }
 
-/// Does what the words ask for with the standard streams and the bundle's file,
+/// Returns the path of the directory that a run is recorded into while it goes on, empty where the
+/// words name none.
+fn directory_of(alloc: Global, words: &[String]) -> Result<String, AllocError>
+    ensures { IfOk result
+        (λ path. string_bytes path ≡ unwrap_or (directory_of (command (texts words.now))) []) }
+{
+    String::from_str(alloc, directory_path(words).unwrap_or(""))
+}
+
+/// Makes the sinks of the files of a run in a directory, which the first write makes.
+fn run_files<'r, R: AllocGlobal + Files>(
+    rt: &'r R,
+    directory: String,
+) -> Result<RunFiles<RunFileSink<'r, R>, RunFileSink<'r, R>, RunFileSink<'r, R>>, AllocError> {
+    let alloc = rt.alloc();
+    let manifest = join(alloc, directory.as_str(), PORTABLE_MANIFEST_FILE_NAME)?;
+    let store = join(alloc, directory.as_str(), STORE_ZIP_FILE_NAME)?;
+    let log = join(alloc, directory.as_str(), RUN_LOG_FILE_NAME)?;
+    Ok(RunFiles {
+        manifest: RunFileSink::new(rt, Some(directory), manifest),
+        store: RunFileSink::new(rt, None, store),
+        log: RunFileSink::new(rt, None, log),
+    })
+}
+
+/// Does what the words ask for with the standard streams, the bundle's file and the run's files,
 /// and returns the status.
-fn status_of<R: AllocGlobal + Files + Input + Print, G: Sink>(
+fn status_of<R: AllocGlobal + Files + Input + Print, G: Drop + Sink>(
     rt: &R,
     words: &[String],
-    diag: &mut G,
+    mut diag: G,
 ) -> u8 {
-    let Ok(path) = path_of(rt.alloc(), words) else {
-        return status_without_memory(diag);
+    let alloc = rt.alloc();
+    let Ok(path) = path_of(alloc, words) else {
+        return status_without_memory(&mut diag);
     };
-    let mut source = StdSource::new(rt.reader());
-    let mut bundle = FileSink::new(rt, path);
-    let mut out = StdSink::new(io::writer(rt));
-    run_program(rt.alloc(), words, &mut source, &mut bundle, &mut out, diag)
+    let Ok(directory) = directory_of(alloc, words) else {
+        return status_without_memory(&mut diag);
+    };
+    let Ok(files) = run_files(rt, directory) else {
+        return status_without_memory(&mut diag);
+    };
+    let streams = Streams {
+        source: StdSource::new(rt.reader()),
+        bundle: FileSink::new(rt, path),
+        files,
+        disk: StdDisk::new(rt),
+        out: StdSink::new(io::writer(rt)),
+        diag,
+    };
+    run_program(alloc, words, streams).status
 }
 
 fn main(rt: HostRuntime) -> ExitCode {
@@ -75,5 +121,5 @@ fn main(rt: HostRuntime) -> ExitCode {
         Ok(words) => words,
         Err(error) => return ExitCode::from(status_without_words(&error, &mut diag)),
     };
-    ExitCode::from(status_of(&rt, &words, &mut diag))
+    ExitCode::from(status_of(&rt, &words, diag))
 }
