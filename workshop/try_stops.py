@@ -1,15 +1,13 @@
-"""Stops a recorder at random moments, and prints what is lost of the events that it had accepted.
+"""Stops recordings at random moments, and prints what is lost of the events that were accepted.
 
-    python3 -m workshop.try_stops [--tries N] [--seed N] [--summary] [RECORDER PROGRAM]
+    python3 -m workshop.try_stops [--tries N] [--seed N] [--summary] [PROGRAM]
 
-The recorder is `crates/rec_live/out/rec_live`, which writes the log and the store of a run as it
-goes, and prints how many events were accepted so far. It is killed when both files have a random
-length, or after a random time; or its files may not be longer than a random length, or lie on a
-file system with room for so much. The run's directory is then packed as it is, with a manifest that
-is made of the session's head, and `crates/rezovamy/out/rezovamy salvage` makes a bundle of it. This
-bundle has to have each event that was accepted, and at most one more, as `record` logs it, with its
-outputs byte for byte; and `replay` and `trace` have to read it. Where the recorder had not accepted
-the run's metadata, `salvage` may refuse.
+`crates/rezovamy/out/rezovamy live` records the run as it goes, and prints how many events were
+accepted so far. It is killed when log and store together have a random length, or after a random
+time; or its files may not be longer than a random length, or lie on a file system with room for so
+much. Then `pack` makes a bundle of the run's directory. This bundle has to have each event that was
+accepted, and at most one more, as `record` logs it, with its outputs byte for byte; and `replay`
+and `trace` have to read it. Where the run's metadata wasn't accepted, `pack` may refuse.
 
 Of 100 tries, or those of `--tries`, the seed decides session, way and length; the moment is the
 machine's. A small file system needs rights and Linux; where there are none it is left out, which is
@@ -46,20 +44,8 @@ from rezovamy_runs.command_line import (
 )
 from workshop import TOP
 
-CRATES = TOP / "crates"
-LOG, STORE, MANIFEST = "run.log.zst", "store.zip", "manifest.json"
-RUN_MEMBERS = (
-    "run-id",
-    "nextest-version",
-    "started-at",
-    "last-written-at",
-    "duration",
-    "cli-args",
-    "env-vars",
-    "parent-run-id",
-    "status",
-)
-NO_SIZES = {"compressed": 0, "uncompressed": 0, "entries": 0}
+PROGRAM = TOP / "crates/rezovamy/out/rezovamy"
+LOG, STORE = "run.log.zst", "store.zip"
 # Sessions whose log grows fast, whose store does, and which has events of each kind.
 MAKERS = (
     ("many events", ["make_session", "250", "--ends"]),
@@ -73,12 +59,16 @@ KILLED_AT_LENGTH, KILLED_AFTER_TIME, LIMITED, FULL = WAYS = (
     "a full file system",
 )
 # How a recorder may end: by the signal, with a fault of a write, or whole before it is stopped.
-ENDS = {KILLED_AT_LENGTH: (-9, 0), KILLED_AFTER_TIME: (-9, 0), LIMITED: (1, 0), FULL: (1, 0)}
-SMALL = 'mount -t tmpfs -o size="$1" none run && { "$2" run; s=$?; cp run/* left/; exit $s; }'
+ENDS = {KILLED_AT_LENGTH: (-9, 0), KILLED_AFTER_TIME: (-9, 0), LIMITED: (10, 0), FULL: (10, 0)}
+SMALL = (
+    'mount -t tmpfs -o size="$1" none small '
+    '&& { "$2" live small/run; s=$?; cp -r small/run left; exit $s; }'
+)
 PAGE = 4096
 PAUSE = 0.0002
 LONGEST_RUN = 120
-WITHOUT_METADATA = 15
+# What `pack` ends with where nothing is there yet, or the store lacks the metadata.
+WITHOUT_METADATA = (12, 15)
 
 
 # An output by the path and the content of its entry in the store.
@@ -96,18 +86,6 @@ class Session:
     lines: tuple[bytes, ...]
     lengths: tuple[int, int] = (0, 0)
     seconds: float = 0
-
-    @functools.cached_property
-    def manifest(self) -> bytes:
-        """The manifest of a run with this head, of which no sizes are known."""
-        head = json.loads(self.text.splitlines()[0])
-        run = {name: head[name] for name in RUN_MEMBERS if name in head}
-        run |= {
-            "store-format-version": 3,
-            "store-format-minor-version": 1,
-            "sizes": {"log": NO_SIZES, "store": NO_SIZES},
-        }
-        return json.dumps({"format-version": {"major": 1, "minor": 1}, "run": run}).encode()
 
     @functools.cached_property
     def outputs(self) -> list[list[Output]]:
@@ -149,19 +127,15 @@ class Stop:
 
 @dataclasses.dataclass(frozen=True)
 class Left:
-    """What a recorder left: its status, how many events it said were accepted, if it said so, and
-    its files.
+    """What a recording left: its status, how many events were accepted, if it said so, its log and
+    its store; and what `pack` makes of the directory: status, what it prints, and the bundle.
     """
 
     status: int
     accepted: int | None
     log: bytes
     store: bytes
-
-    def bundle(self, manifest: bytes) -> bytes:
-        return container(
-            [(MANIFEST.encode(), manifest), (LOG.encode(), self.log), (STORE.encode(), self.store)]
-        )
+    packed: tuple[int, bytes, bytes]
 
 
 class Lost(Exception):
@@ -177,14 +151,14 @@ def accepted_of(printed: bytes) -> int | None:
     """How many events the printed lines say were accepted; the last line may be cut off."""
     lines = printed.split(b"\n")[:-1]
     demand(
-        lines == [str(count).encode() for count in range(len(lines))],
-        f"the recorder prints {lines[:3]!r} ..",
+        lines == [b"accepted=%d" % count for count in range(len(lines))],
+        f"live prints {lines[:3]!r} ..",
     )
     return len(lines) - 1 if lines else None
 
 
 class Recorder:
-    """The recorder, run in a folder of its own for each try."""
+    """The recording program, run in a folder of its own for each try."""
 
     def __init__(self, path: str | Path) -> None:
         self.path = os.path.abspath(path)
@@ -195,8 +169,7 @@ class Recorder:
         """
         with tempfile.TemporaryDirectory() as name:
             folder = Path(name)
-            for part in ("run", "left"):
-                (folder / part).mkdir()
+            (folder / "small").mkdir()
             (folder / "session").write_bytes(session.text)
             with open(folder / "session", "rb") as source:
                 # Where writes beyond a limit fail, the signal of it has to be ignored, as Python
@@ -214,12 +187,14 @@ class Recorder:
             with child.stdout:
                 status = ended(child, session, stop, folder / "run")
                 accepted = accepted_of(child.stdout.read())
-            files = folder / ("left" if stop and stop.way == FULL else "run")
-            return Left(status, accepted, *(content(files / file) for file in (LOG, STORE)))
+            run = "left" if stop and stop.way == FULL else "run"
+            log, store = (content(folder / run / file) for file in (LOG, STORE))
+            packed = Program(self.path).run(["pack", run, "b"], b"", name)
+            return Left(status, accepted, log, store, packed)
 
     def words(self, session: Session, stop: Stop | None) -> list[str]:
         if stop and stop.way == LIMITED:
-            return ["prlimit", f"--fsize={stop.of(max(session.lengths))}", self.path, "run"]
+            return ["prlimit", f"--fsize={stop.of(max(session.lengths))}", self.path, "live", "run"]
         if stop and stop.way == FULL:
             room = max(PAGE, stop.of(sum(session.lengths)))
             return [
@@ -233,11 +208,11 @@ class Recorder:
                 str(room),
                 self.path,
             ]
-        return [self.path, "run"]
+        return [self.path, "live", "run"]
 
 
 def ended(child: subprocess.Popen[bytes], session: Session, stop: Stop | None, run: Path) -> int:
-    """Waits until the recorder has ended, or is to be killed, and returns its status."""
+    """Wait until the recording has ended, or is to be killed, and returns its status."""
     if stop and stop.way == KILLED_AT_LENGTH:
         wanted = stop.of(sum(session.lengths))
         while child.poll() is None and sum(length(run / file) for file in (LOG, STORE)) < wanted:
@@ -257,11 +232,8 @@ def content(path: Path) -> bytes:
     return path.read_bytes() if path.exists() else b""
 
 
-class Salvager(Protocol):
-    """What salvages a run that was stopped, and reads the bundle that comes of it."""
-
-    def run(self, words: Sequence[str], source: bytes, folder: str) -> tuple[int, bytes, bytes]:
-        """Return the status, standard output, and the file `b` of a command."""
+class Reader(Protocol):
+    """What reads the bundle of a run that was stopped."""
 
     def sound(self, words: Sequence[str], source: bytes, folder: str) -> tuple[bytes, bytes]:
         """Return standard output and the file `b` of a command that has to succeed."""
@@ -287,7 +259,7 @@ class Program:
         return out, bundle
 
 
-def made(recorder: Recorder, program: Salvager, name: str, words: Sequence[str]) -> Session:
+def made(recorder: Recorder, program: Reader, name: str, words: Sequence[str]) -> Session:
     """The session that a tool makes, and what comes of it."""
     text = subprocess.run(
         [sys.executable, "-m", f"workshop.{words[0]}", *words[1:]],
@@ -302,36 +274,38 @@ def made(recorder: Recorder, program: Salvager, name: str, words: Sequence[str])
     left = recorder.stopped(session, None)
     demand(
         left.status == 0 and left.log == log,
-        f"{name}: the recorder ends with status {left.status}, or logs something else",
+        f"{name}: live ends with status {left.status}, or logs something else",
     )
     return dataclasses.replace(
         session, lengths=(len(log), len(left.store)), seconds=time.monotonic() - begun
     )
 
 
-def check(program: Salvager, session: Session, left: Left) -> int | None:
-    """Holds what is salvaged against what was accepted, and returns how many events that are."""
+def check(program: Reader, session: Session, left: Left) -> int | None:
+    """Hold what is packed against what was accepted, and return how many events that are."""
     with tempfile.TemporaryDirectory() as folder:
-        status, out, bundle = program.run(["salvage", "b"], left.bundle(session.manifest), folder)
-        if left.accepted is None and status == WITHOUT_METADATA:
+        status, out, bundle = left.packed
+        if left.accepted is None and status in WITHOUT_METADATA:
             return None
-        demand(status == 0, f"salvage ends with status {status}")
+        demand(status == 0, f"pack ends with status {status}")
         parts = entries(bundle)
         log, store = parts[LOG.encode()], entries(parts[STORE.encode()])
         lines = tuple(log.splitlines(keepends=True))
         accepted = left.accepted or 0
         demand(
             accepted <= len(lines) <= accepted + 1,
-            f"{len(lines)} events are salvaged, {accepted} were accepted",
+            f"{len(lines)} events are packed, {accepted} were accepted",
         )
-        demand(lines == session.lines[: len(lines)], "another log is salvaged")
+        demand(lines == session.lines[: len(lines)], "another log is packed")
         kept = [output for event in session.outputs[: len(lines)] for output in event]
         demand(
             all(store.get(path) == content for path, content in kept),
-            "an output isn't salvaged as it was",
+            "an output isn't packed as it was",
         )
         named = len({path for path, _ in kept})
-        demand(out == f"events={len(lines)} outputs={named}\n".encode(), f"salvage prints {out!r}")
+        counted = f"events={len(lines)} outputs={named}".encode()
+        demand(out in (counted + b"\n", counted + b" stopped\n"), f"pack prints {out!r}")
+        demand(left.status != 0 or out == counted + b"\n", "a whole run is packed as stopped")
         replayed, _ = program.sound(["replay"], bundle, folder)
         demand(replayed.count(b"\n") == 1 + len(lines), "a replay has not a line for each event")
         json.loads(program.sound(["trace"], bundle, folder)[0])
@@ -375,16 +349,16 @@ class Summary:
 
     def __init__(self) -> None:
         self.counts: Counter[str] = Counter()
-        self.accepted = self.salvaged = 0
+        self.accepted = self.packed = 0
 
-    def add(self, session: Session, stop: Stop, left: Left, salvaged: int | None) -> None:
+    def add(self, session: Session, stop: Stop, left: Left, packed: int | None) -> None:
         self.counts[stop.way] += 1
         self.counts["early"] += left.accepted is None
         self.counts["whole"] += left.accepted == len(session.lines)
         self.counts["in a line"] += not left.log.endswith(b"\n") and left.log != b""
         self.counts["in an entry"] += ends_in_entry(left.store)
         self.accepted += left.accepted or 0
-        self.salvaged += salvaged or 0
+        self.packed += packed or 0
 
     def text(self, seed: int) -> str:
         ways = ", ".join(f"{self.counts[way]} {way}" for way in WAYS)
@@ -397,7 +371,7 @@ class Summary:
             f"after the last event"
         )
         tries = sum(self.counts[way] for way in WAYS)
-        events = f"{self.accepted} events accepted, {self.salvaged} salvaged"
+        events = f"{self.accepted} events accepted, {self.packed} packed"
         return f"{tries} tries with seed {seed}: {ways}; {places}; {ends}; {events}\n"
 
 
@@ -408,12 +382,12 @@ def ends_in_entry(store: bytes) -> bool:
 
 
 def tried(
-    recorder: Recorder, program: Salvager, session: Session, stop: Stop
+    recorder: Recorder, program: Reader, session: Session, stop: Stop
 ) -> tuple[Left, int | None] | str:
-    """Return what a try left and how many events are salvaged of it, or what is wrong."""
+    """Return what a try left and how many events are packed of it, or what is wrong."""
     try:
         left = recorder.stopped(session, stop)
-        demand(left.status in ENDS[stop.way], f"the recorder ends with status {left.status}")
+        demand(left.status in ENDS[stop.way], f"live ends with status {left.status}")
         return left, check(program, session, left)
     except (Lost, subprocess.TimeoutExpired) as fault:
         return f"{session.name}, {stop.way}, {stop.part:.6f}: {fault}"
@@ -444,7 +418,7 @@ def main() -> None:
     heed_signals()
     parser = command_line(__doc__)
     parser.add_argument(
-        "programs", nargs="*", metavar="RECORDER PROGRAM", help="the two built programs"
+        "program", nargs="?", default=PROGRAM, metavar="PROGRAM", help="the built program"
     )
     parser.add_argument(
         "--tries",
@@ -458,13 +432,9 @@ def main() -> None:
     )
     parser.add_argument("--summary", action="store_true", help="print what was tried")
     asked = parser.parse_args()
-    paths = asked.programs or [CRATES / "rec_live/out/rec_live", CRATES / "rezovamy/out/rezovamy"]
-    if len(paths) != 2:
-        parser.error("the programs are two, or none is named")
-    for path in paths:
-        demand_program(parser, path)
+    demand_program(parser, asked.program)
     try:
-        recorder, program = Recorder(paths[0]), Program(paths[1])
+        recorder, program = Recorder(asked.program), Program(asked.program)
         is_wrong = try_all(recorder, program, asked.seed, asked.tries, asked.summary)
         sys.exit(int(is_wrong))
     except Lost as fault:

@@ -1,13 +1,14 @@
-"""The stops of a recorder: what is planned, and what is found lost in what a program salvages."""
+"""The stops of a recording: what is planned, and what is found lost in what `pack` makes."""
 
 from __future__ import annotations
 
+import dataclasses
 from collections.abc import Iterable, Sequence
 
 import pytest
 
 from rezovamy_runs.bundles.container import container
-from workshop import try_stops
+from workshop import TOP, try_stops
 from workshop.try_stops import FULL, KILLED_AT_LENGTH, WAYS, Left, Lost, Session, Stop
 
 HEAD = b'{"run-id":"x","test-list":{}}'
@@ -24,65 +25,61 @@ def bundle(log: bytes, outputs: Iterable[tuple[bytes, bytes]]) -> bytes:
     return container(parts)
 
 
-class Salvager:
-    """A program that answers what it is told to, whatever it reads."""
+@dataclasses.dataclass(frozen=True)
+class Packed:
+    """What `pack` answers, and a program that reads its bundle."""
 
-    def __init__(
-        self,
-        log: bytes = b"".join(LINES),
-        outputs: Iterable[tuple[bytes, bytes]] = ((ABC, b"abc"),),
-        printed: bytes = b"events=2 outputs=1\n",
-        status: int = 0,
-    ) -> None:
-        self.answer = status, printed, bundle(log, outputs)
-        self.events = log.count(b"\n")
-
-    def run(self, words: Sequence[str], source: bytes, folder: str) -> tuple[int, bytes, bytes]:
-        return self.answer
+    log: bytes = b"".join(LINES)
+    outputs: Iterable[tuple[bytes, bytes]] = ((ABC, b"abc"),)
+    printed: bytes = b"events=2 outputs=1 stopped\n"
+    status: int = 0
 
     def sound(self, words: Sequence[str], source: bytes, folder: str) -> tuple[bytes, bytes]:
-        return {"replay": b"\n" * (1 + self.events), "trace": b"{}"}[words[0]], b""
+        """Return what a command prints of the bundle."""
+        return {"replay": b"\n" * (1 + self.log.count(b"\n")), "trace": b"{}"}[words[0]], b""
 
 
-def salvaged(accepted: int | None, salvager: Salvager) -> int | None:
-    """Check what is salvaged of a run of which this many events were accepted."""
-    left = Left(-9, accepted, b"".join(LINES), b"")
-    return try_stops.check(salvager, SESSION, left)
+def kept(accepted: int | None, packed: Packed, ended: int = -9) -> int | None:
+    """Check what is packed of a run of which this many events were accepted."""
+    answer = packed.status, packed.printed, bundle(packed.log, packed.outputs)
+    left = Left(ended, accepted, b"".join(LINES), b"", answer)
+    return try_stops.check(packed, SESSION, left)
 
 
-def test_what_is_accepted_is_salvaged() -> None:
-    assert salvaged(2, Salvager()) == 2
+def test_what_is_accepted_is_packed() -> None:
+    assert kept(2, Packed()) == 2
 
 
 def test_an_event_that_was_written_and_not_yet_said_to_be() -> None:
-    assert salvaged(1, Salvager()) == 2
-    assert salvaged(None, Salvager(b"", (), b"events=0 outputs=0\n")) == 0
+    assert kept(1, Packed()) == 2
+    assert kept(None, Packed(b"", (), b"events=0 outputs=0 stopped\n")) == 0
 
 
-def test_no_metadata_was_accepted() -> None:
-    assert salvaged(None, Salvager(status=15)) is None
-    with pytest.raises(Lost, match="status 15"):
-        salvaged(0, Salvager(status=15))
+@pytest.mark.parametrize("status", [12, 15])
+def test_no_metadata_was_accepted(status: int) -> None:
+    assert kept(None, Packed(status=status)) is None
+    with pytest.raises(Lost, match=f"status {status}"):
+        kept(0, Packed(status=status))
 
 
 @pytest.mark.parametrize(
-    ("accepted", "salvager", "what"),
+    ("accepted", "packed", "what"),
     [
         (
             2,
-            Salvager(LINES[0], printed=b"events=1 outputs=1\n"),
-            "1 events are salvaged, 2 were accepted",
+            Packed(LINES[0], printed=b"events=1 outputs=1 stopped\n"),
+            "1 events are packed, 2 were accepted",
         ),
-        (0, Salvager(), "2 events are salvaged, 0 were accepted"),
-        (2, Salvager(b"first\nother\n"), "another log"),
-        (2, Salvager(outputs=()), "an output isn't salvaged as it was"),
-        (2, Salvager(outputs=((ABC, b"abd"),)), "an output isn't salvaged as it was"),
-        (2, Salvager(printed=b"events=2 outputs=2\n"), "salvage prints b'events=2 outputs=2"),
+        (0, Packed(), "2 events are packed, 0 were accepted"),
+        (2, Packed(b"first\nother\n"), "another log"),
+        (2, Packed(outputs=()), "an output isn't packed as it was"),
+        (2, Packed(outputs=((ABC, b"abd"),)), "an output isn't packed as it was"),
+        (2, Packed(printed=b"events=2 outputs=2\n"), "pack prints b'events=2 outputs=2"),
     ],
 )
-def test_what_is_lost(accepted: int, salvager: Salvager, what: str) -> None:
+def test_what_is_lost(accepted: int, packed: Packed, what: str) -> None:
     with pytest.raises(Lost, match=what):
-        salvaged(accepted, salvager)
+        kept(accepted, packed)
 
 
 def test_outputs_of_an_event() -> None:
@@ -92,7 +89,13 @@ def test_outputs_of_an_event() -> None:
 
 
 @pytest.mark.parametrize(
-    ("printed", "count"), [(b"", None), (b"0\n", 0), (b"0\n1\n2\n", 2), (b"0\n1\n2", 1)]
+    ("printed", "count"),
+    [
+        (b"", None),
+        (b"accepted=0\n", 0),
+        (b"accepted=0\naccepted=1\naccepted=2\n", 2),
+        (b"accepted=0\naccepted=1\naccepted=2", 1),
+    ],
 )
 def test_what_a_recorder_says(printed: bytes, count: int | None) -> None:
     assert try_stops.accepted_of(printed) == count
@@ -100,12 +103,13 @@ def test_what_a_recorder_says(printed: bytes, count: int | None) -> None:
 
 def test_a_recorder_counts_without_gaps() -> None:
     with pytest.raises(Lost):
-        try_stops.accepted_of(b"0\n2\n")
+        try_stops.accepted_of(b"accepted=0\naccepted=2\n")
 
 
-def test_a_manifest_is_of_the_head() -> None:
-    assert b'"run-id": "x"' in SESSION.manifest
-    assert b"test-list" not in SESSION.manifest
+def test_a_whole_run_is_not_packed_as_stopped() -> None:
+    assert kept(2, Packed(printed=b"events=2 outputs=1\n"), ended=0) == 2
+    with pytest.raises(Lost, match="as stopped"):
+        kept(2, Packed(), ended=0)
 
 
 def test_the_seed_decides_what_is_tried() -> None:
@@ -127,6 +131,6 @@ def test_where_a_store_ends() -> None:
 
 
 def test_the_names_of_the_files() -> None:
-    paths = (try_stops.CRATES / "rec_format/src/paths.rt").read_text()
+    paths = (TOP / "crates/rec_format/src/paths.rt").read_text()
     for name in (try_stops.LOG, try_stops.STORE):
         assert f'"{name}"' in paths
