@@ -9,5 +9,7 @@ mod run_files;
 mod writer;
 
 pub use errors::PortableRecordingError;
+pub use names::temporary_path;
 pub use packing::PortableRecordingResult;
+pub use replacing::replace_file;
 pub use writer::PortableRecordingWriter;

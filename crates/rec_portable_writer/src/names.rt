@@ -30,7 +30,11 @@ pub(crate) fn run_dir(
 }
 
 /// Returns the path under which a file is written until it is whole.
-pub(crate) fn temporary_path(alloc: Global, path: &str) -> Result<String, AllocError>
+///
+/// # Errors
+///
+/// `AllocError` where memory is short.
+pub fn temporary_path(alloc: Global, path: &str) -> Result<String, AllocError>
     ensures { IfOk result (λ temporary. string_bytes temporary ≡ temporary_of path.now) }
 {
     let mut temporary = String::from_str(alloc, path)?;

@@ -11,7 +11,7 @@ use rec_disk::{Disk, DiskError};
 ///
 /// Those of the disk, of which `Missing` never comes where the disk says its files. The file at
 /// `path` is as it was; the one at `temporary` may hold a prefix of the bytes.
-pub(crate) fn replace_file<D: Disk>(
+pub fn replace_file<D: Disk>(
     disk: &mut D,
     temporary: &str,
     path: &str,

@@ -40,7 +40,12 @@ pub fn salvage_dir<D: Disk>(
 }
 
 /// Reads a run's store.
-fn read_store<D: Disk>(alloc: Global, disk: &mut D, run_dir: &str) -> Result<Vec<u8>, SalvageError>
+///
+/// # Errors
+///
+/// `OpenArchive` exactly where the store is missing, `DiskFault` where the disk fails, or
+/// `OutOfMemory`.
+pub fn read_store<D: Disk>(alloc: Global, disk: &mut D, run_dir: &str) -> Result<Vec<u8>, SalvageError>
     ensures ok { IfOk result
         (λ bytes. IsWhole (D.files disk.old) (path_of_store run_dir.now) bytes.items) }
     ensures err { IfErr result (StoreUnread (D.files disk.old) run_dir.now) }
@@ -57,7 +62,12 @@ fn read_store<D: Disk>(alloc: Global, disk: &mut D, run_dir: &str) -> Result<Vec
 }
 
 /// Reads a run's log.
-fn read_log<D: Disk>(alloc: Global, disk: &mut D, run_dir: &str) -> Result<Vec<u8>, SalvageError>
+///
+/// # Errors
+///
+/// `OpenRunLog` exactly where the log is missing, `DiskFault` where the disk fails, or
+/// `OutOfMemory`.
+pub fn read_log<D: Disk>(alloc: Global, disk: &mut D, run_dir: &str) -> Result<Vec<u8>, SalvageError>
     ensures ok { IfOk result
         (λ bytes. IsWhole (D.files disk.old) (path_of_log run_dir.now) bytes.items) }
     ensures err { IfErr result (LogUnread (D.files disk.old) run_dir.now) }
