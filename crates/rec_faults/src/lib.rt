@@ -8,6 +8,7 @@ mod export;
 mod line;
 mod live;
 mod marks;
+mod pack;
 mod reading;
 mod refusal;
 mod salvage;

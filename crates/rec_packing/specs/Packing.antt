@@ -1,7 +1,7 @@
 -- The bundle of a run's directory.
 use Rattle.std.specs.List.{ends_with}
 use Rattle.std.specs.Prelude.{◌≡◌, ◌⊎◌, ◌==◌, ◌||◌, ℕ, ◌≤◌, List, [], ◌∷◌, length, nat_eq}
-use Rattle.std.specs.Prelude.{Bool, true, false, Option, Result, Ok, Err}
+use Rattle.std.specs.Prelude.{Bool, true, false, Option, None, Some, Result, Ok}
 use Rattle.rec_container.specs.Causes.{Rose}
 use Rattle.rec_container.specs.Container.{Entry, IsContainer}
 use Rattle.rec_container.specs.declared.errors.ContainerError.{ContainerError}
@@ -53,12 +53,22 @@ pub record Makes (files : Option Files) (dir : List ℕ) (run : RecordedRunInfo)
   pub ends : Ends log store ended
 
 -- why nothing was made of it
-abbrev pub MakesNone : Option Files → ℕ → ℕ → List ℕ → PackError → Type 0
-MakesNone files before now dir e =
+abbrev pub MakesNone : Option Files → List ℕ → PackError → Type 0
+MakesNone files dir e =
     (e ≡ OutOfMemory)
     ⊎ ((fault : SalvageError) × (e ≡ salvage_fault fault) × IsRefusedIn files dir fault)
 
 -- ---- what is packed
+
+-- the disk failed where the bundle was written; of one that doesn't say its files nothing is said
+abbrev pub DiskFails : Option Files → ℕ → ℕ → Type 0
+DiskFails None before now = Unit {0}
+DiskFails (Some files) before now = Rose before now
+
+-- why a bundle that was made wasn't written
+abbrev pub Unwritten : Option Files → ℕ → ℕ → PackError → Type 0
+Unwritten files before now e =
+    (e ≡ OutOfMemory) ⊎ ((e ≡ BundleFault) × DiskFails files before now)
 
 -- whether a run was packed to its end
 abbrev pub is_whole : Bool → Bool
@@ -87,8 +97,8 @@ module _ {S : Type 0} (left : S → Option (List ℕ)) (faults : S → ℕ) (lim
       LacksManifest old before now dir e
       ⊎ ((manifest : PortableManifest) × HasManifest old dir manifest
       × Unclosed left faults limit (info_of manifest.run) s0 s1 e)
-      ⊎ MakesNone old before now dir e
-      ⊎ ((e ≡ BundleFault) × Rose before now)
+      ⊎ MakesNone old dir e
+      ⊎ Unwritten old before now e
 
 -- no file has changed, but that the temporary one may hold the begin of something
 abbrev pub LeavesFiles : Option Files → Option Files → List ℕ → Type 0

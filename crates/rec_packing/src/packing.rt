@@ -1,14 +1,9 @@
 //! The bundle of a run's directory, and where it is written.
-ghost use Rattle.std.specs.Prelude.{◌≡◌, ◌⊎◌, IfOk, IfErr, Ok};
-ghost use Rattle.rec_packing.specs.declared.errors.PackError.TheVariants.{
-  BundleFault,
-  OutOfMemory,
-};
-ghost use Rattle.rec_container.specs.Causes.{Rose};
+ghost use Rattle.std.specs.Prelude.{◌≡◌, ◌≤◌, IfOk, IfErr, Ok};
 ghost use Rattle.rec_portable_writer.specs.Names.{temporary_path as temporary_of};
 ghost use Rattle.rec_portable_writer.specs.Replacing.{Replaces};
 ghost use Rattle.rec_packing.specs.Packing.{Ends, IsRefused, LeavesFiles, Makes, MakesNone, Packs};
-ghost use Rattle.rec_packing.specs.Packing.{ends_a_line, is_whole};
+ghost use Rattle.rec_packing.specs.Packing.{Unwritten, ends_a_line, is_whole};
 
 use crate::errors::PackError;
 use crate::run::{closed_run, read_manifest};
@@ -94,8 +89,9 @@ fn make<D: Disk>(
     ensures ok { IfOk result
         (λ m. Makes (D.files disk.old) run_dir.now run.now m.salvaged m.ended) }
     ensures err { IfErr result
-        (MakesNone (D.files disk.old) (D.faults disk.old) (D.faults disk.new) run_dir.now) }
+        (MakesNone (D.files disk.old) run_dir.now) }
     ensures same { D.files disk.new ≡ D.files disk.old }
+    ensures later { D.faults disk.old ≤ D.faults disk.new }
 {
     let store = read_store(alloc, disk, run_dir)?;
     let log = read_log(alloc, disk, run_dir)?;
@@ -126,24 +122,19 @@ fn ends_a_line(log: &[u8]) -> bool
 }
 
 /// Writes a bundle to a path, in the place of a file that is there, once it is whole.
-fn write<D: Disk>(
-    alloc: Global,
-    disk: &mut D,
-    path: &str,
-    made: &Made,
-) -> Result<Packed, PackError>
+fn write<D: Disk>(alloc: Global, disk: &mut D, path: &str, made: &Made) -> Result<Packed, PackError>
     ensures ok { IfOk result (λ p. Replaces (D.files disk.old) (D.files disk.new)
         (temporary_of path.now) path.now made.now.salvaged.bundle (Ok tt)) }
     ensures counted { IfOk result
         (λ p. (p.events ≡ made.now.salvaged.events) × (p.outputs ≡ made.now.salvaged.outputs)
         × (is_whole p.stopped ≡ made.now.ended)) }
     ensures err { IfErr result
-        (λ e. (e ≡ OutOfMemory) ⊎ ((e ≡ BundleFault) × Rose (D.faults disk.old) (D.faults disk.new))) }
+        (Unwritten (D.files disk.old) (D.faults disk.old) (D.faults disk.new)) }
     ensures leaves { IfErr result
         (λ _. LeavesFiles (D.files disk.old) (D.files disk.new) path.now) }
 {
     let temporary = temporary_path(alloc, path)?;
-    match replace_file(disk, temporary.as_str(), path, &made.salvaged.bundle) {
+    match replace_file(disk, temporary.as_str(), path, made.salvaged.bundle.as_slice()) {
         Ok(()) => Ok(Packed {
             events: made.salvaged.events,
             outputs: made.salvaged.outputs,

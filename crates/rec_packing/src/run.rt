@@ -1,10 +1,10 @@
 //! The run of a directory: its manifest, and the head that the run ended with.
-ghost use Rattle.std.specs.Prelude.{◌≡◌, ◌↔◌, IfOk, IfErr, IsTrue};
+ghost use Rattle.std.specs.Prelude.{◌≡◌, ◌↔◌, ◌≤◌, IfOk, IfErr, IsTrue};
 ghost use Rattle.rec_disk.specs.Disks.{HasDiskCause};
 ghost use Rattle.rec_format.specs.Runs.{info_of};
+ghost use Rattle.rec_packing.specs.declared.errors.PackError.TheVariants.{OtherRun};
 ghost use Rattle.rec_packing.specs.Runs.{ClosedBy, HasManifest, IsOf, LacksManifest, Unclosed};
 ghost use Rattle.rec_packing.specs.Runs.{ended_as, path_of_manifest};
-ghost use Rattle.rec_packing.specs.declared.errors.PackError.TheVariants.{OtherRun};
 
 use crate::errors::PackError;
 use rec_codec::Line;
@@ -27,6 +27,7 @@ pub(crate) fn read_manifest<D: Disk>(
     ensures err { IfErr result
         (LacksManifest (D.files disk.old) (D.faults disk.old) (D.faults disk.new) run_dir.now) }
     ensures same { D.files disk.new ≡ D.files disk.old }
+    ensures later { D.faults disk.old ≤ D.faults disk.new }
 {
     let path = manifest_path(alloc, run_dir)?;
     let text = match read_file(alloc, disk, path.as_str()) {

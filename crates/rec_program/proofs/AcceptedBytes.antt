@@ -96,5 +96,6 @@ module _ {S B F D T G : Type 0} (o : Objects S B F D T G) (bytes : List ℕ) whe
         ),
       )
   only_accepted number (living path settings) has s = absurd has
+  only_accepted number (packing directory path settings) has s = absurd has
   only_accepted number help has s = tt
   only_accepted number version has s = tt

@@ -13,14 +13,14 @@ use Rattle.rec_words.specs.declared.usage.TheConstants.{USAGE}
 use Rattle.rec_words.specs.Usage.{versions_text}
 use Rattle.rec_words.specs.Words.{Asked, recording, tracing, replaying}
 use Rattle.rec_words.specs.Words.{reporting, informing, slotting, rerunning}
-use Rattle.rec_words.specs.Words.{sampling, upgrading, salvaging, living, help, version}
-use Rattle.rec_faults.specs.DirectoryCommands.{live_status}
+use Rattle.rec_words.specs.Words.{sampling, upgrading, salvaging, living, packing, help, version}
+use Rattle.rec_faults.specs.DirectoryCommands.{live_status, pack_status}
 use Rattle.rec_faults.specs.Status.{export_status, reading_status}
 use Rattle.rec_faults.specs.WritingCommands.{upgrade_status}
-use Rattle.rec_program.proofs.StatusesAbove.{export_above, live_above, reading_above}
+use Rattle.rec_program.proofs.StatusesAbove.{export_above, live_above, pack_above, reading_above}
 use Rattle.rec_program.proofs.WritingCommands.{refusal_above, upgrade_above}
 use Rattle.rec_program.specs.BundleTraces.{PrintsTrace}
-use Rattle.rec_program.specs.Counts.{counts_line}
+use Rattle.rec_program.specs.Counts.{counts_line, packed_line}
 use Rattle.rec_program.specs.Objects.{Objects}
 use Rattle.rec_program.specs.Running.{Prints, Runs, ShowsReading}
 use Rattle.rec_program.specs.Salvaging.{refusal_status}
@@ -72,6 +72,12 @@ module _ {S B F D T G : Type 0} (o : Objects S B F D T G) (status : ℕ) where
   asks number (living path settings) (inl r, kept) = zeroed r.2
   asks number (living path settings) (inr r, kept) =
       above (live_status r.0) (live_above r.0) r.2.0
+  asks number (packing directory path settings) (inl (p, packs, inl t), kept) =
+      prints (packed_line p) t
+  asks number (packing directory path settings) (inl (p, packs, inr t), kept) =
+      above 70 (omega arith) t.1.0
+  asks number (packing directory path settings) (inr r, kept) =
+      above (pack_status r.0) (pack_above r.0) r.4.0
   asks number help r = prints USAGE.now r.0
   asks number version r = prints versions_text r.0
 

@@ -25,7 +25,7 @@ use Rattle.rec_program.proofs.Commands.{report_or_memory, rerun_or_memory, slots
 use Rattle.rec_program.proofs.Commands.{slots_or_memory, trace_is, trace_or_memory}
 use Rattle.rec_program.proofs.RefusedBytes.{only_refused}
 use Rattle.rec_program.proofs.SamplesRecorded.{sampled, sampled_or_memory}
-use Rattle.rec_program.proofs.StatusesAbove.{live_above}
+use Rattle.rec_program.proofs.StatusesAbove.{live_above, pack_above}
 use Rattle.rec_program.proofs.WritingCommands.{not_salvaged, not_upgraded, salvaged}
 use Rattle.rec_program.proofs.WritingCommands.{salvaged_or_memory, upgraded, upgraded_or_memory}
 use Rattle.rec_program.specs.BundleTraces.{PrintsTrace}
@@ -120,6 +120,14 @@ module _ {S B F D T G : Type 0} (o : Objects S B F D T G) (status : ℕ) where
   succeeds number (living path settings) zeroed (inl r, kept) = (r.1.all, r.1.kept)
   succeeds number (living path settings) zeroed (inr r, kept) =
       absurd (let above = live_above r.0 in let is = r.2.0 in omega (arith, above, is, zeroed))
+  succeeds number (packing directory path settings) zeroed (inl (p, packs, inl (inl t)), kept) =
+      (p, packs, t.1)
+  succeeds number (packing directory path settings) zeroed (inl (p, packs, inl (inr t)), kept) =
+      absurd (let is = t.0 in omega (arith, is, zeroed))
+  succeeds number (packing directory path settings) zeroed (inl (p, packs, inr t), kept) =
+      absurd (let is = t.1.0 in omega (arith, is, zeroed))
+  succeeds number (packing directory path settings) zeroed (inr r, kept) =
+      absurd (let above = pack_above r.0 in let is = r.4.0 in omega (arith, above, is, zeroed))
   succeeds number help zeroed runs = told _ zeroed runs
   succeeds number version zeroed runs = told _ zeroed runs
 
@@ -136,6 +144,13 @@ module _ {S B F D T G : Type 0} (o : Objects S B F D T G) (status : ℕ) where
       o.d1 other runs
   stops number (living path settings) other (inl r, kept) = r.1.kept
   stops number (living path settings) other (inr r, kept) = r.1.kept
+  stops number (packing directory path settings) other (inl (p, packs, inl (inl t)), kept) =
+      absurd (other t.0)
+  stops number (packing directory path settings) other (inl (p, packs, inl (inr t)), kept) =
+      inr (inl t.0, (p, packs))
+  stops number (packing directory path settings) other (inl (p, packs, inr t), kept) =
+      inr (inr t.1.0, (p, packs))
+  stops number (packing directory path settings) other (inr r, kept) = inl r.2
   stops number asked other runs = tt
 
   -- ---- what is accepted

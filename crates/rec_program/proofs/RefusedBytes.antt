@@ -223,5 +223,6 @@ module _ {S B F D T G : Type 0} (o : Objects S B F D T G) (status : ℕ) (bytes 
       withheld_so bundle_refusal refusal_status SalvagesRun settings has well.0 (λ most. refl) refl
       e refused.0 kept
   only_refused number (living path settings) has well runs = absurd has
+  only_refused number (packing directory path settings) has well runs = absurd has
   only_refused number help has well runs = printed _ well runs.0
   only_refused number version has well runs = printed _ well runs.0

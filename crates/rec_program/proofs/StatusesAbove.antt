@@ -12,6 +12,8 @@ use Rattle.rec_replay.specs.declared.conversion_error.ReplayConversionError.TheV
 use Rattle.rec_replay.specs.declared.conversion_error.ReplayConversionError.{ReplayConversionError}
 use Rattle.rec_junit.specs.declared.errors.JunitError.TheVariants as reports
 use Rattle.rec_junit.specs.declared.errors.JunitError.{JunitError}
+use Rattle.rec_salvage.specs.declared.errors.SalvageError.TheVariants as salvages
+use Rattle.rec_salvage.specs.declared.errors.SalvageError.{SalvageError}
 use Rattle.rec_slots.specs.declared.report.SlotError.TheVariants as slots
 use Rattle.rec_slots.specs.declared.report.SlotError.{SlotError}
 use Rattle.rec_errors.specs.declared.export_error.RecordExportError.TheVariants as exports
@@ -25,9 +27,12 @@ use Rattle.rec_errors.specs.LineFaults.{line_fault}
 use Rattle.rec_errors.specs.TraceFaults.{trace_fault}
 use Rattle.rec_live_recording.specs.declared.errors.LiveError.TheVariants as live
 use Rattle.rec_live_recording.specs.declared.errors.LiveError.{LiveError}
-use Rattle.rec_faults.specs.DirectoryCommands.{live_status}
+use Rattle.rec_packing.specs.declared.errors.PackError.TheVariants as packs
+use Rattle.rec_packing.specs.declared.errors.PackError.{PackError}
+use Rattle.rec_faults.specs.DirectoryCommands.{live_status, pack_status}
 use Rattle.rec_faults.specs.Status.{bundle_status, conversion_status, export_status}
 use Rattle.rec_faults.specs.Status.{junit_status, part_status, reading_status, slots_status}
+use Rattle.rec_faults.specs.WritingCommands.{salvage_status}
 
 pub export_above : (e : RecordExportError) → 2 < export_status e
 export_above exports.SourceFault = lit< tt
@@ -112,3 +117,22 @@ live_above live.ManifestFault = lit< tt
 live_above live.StoreFault = lit< tt
 live_above live.LogFault = lit< tt
 live_above live.OutFault = lit< tt
+
+pub salvage_above : (e : SalvageError) → 2 < salvage_status e
+salvage_above salvages.BadMagic = lit< tt
+salvage_above (salvages.MissingMeta file_name) = lit< tt
+salvage_above (salvages.BadMeta file_name) = lit< tt
+salvage_above (salvages.OpenArchive path) = lit< tt
+salvage_above (salvages.OpenRunLog path) = lit< tt
+salvage_above (salvages.DiskFault path) = lit< tt
+salvage_above salvages.OutOfMemory = lit< tt
+
+pub pack_above : (e : PackError) → 2 < pack_status e
+pack_above (packs.OpenManifest path) = lit< tt
+pack_above (packs.DiskFault path) = lit< tt
+pack_above packs.ParseManifest = lit< tt
+pack_above (packs.Closing e) = export_above e
+pack_above packs.OtherRun = lit< tt
+pack_above (packs.Salvage e) = salvage_above e
+pack_above packs.BundleFault = lit< tt
+pack_above packs.OutOfMemory = lit< tt

@@ -35,6 +35,7 @@ use Rattle.rec_program.proofs.BundlesShown.{withheld}
 use Rattle.rec_program.proofs.Commands.{printed_of}
 use Rattle.rec_program.proofs.RunsSalvaged.{stopped_unfound}
 use Rattle.rec_program.proofs.StatusesAbove.{bundle_above}
+use Rattle.rec_program.proofs.StatusesAbove.{salvage_above}
 use Rattle.rec_program.proofs.UpgradesJudged.{accepted_unrefused}
 use Rattle.rec_program.specs.Counts.{counts_line}
 use Rattle.rec_program.specs.declared.salvage_refusal.SalvageRefusal.TheVariants.{
@@ -75,15 +76,6 @@ upgrade_above upgrades.CountOutOfRange = lit< tt
 upgrade_above (upgrades.FileTooLarge file_name size limit) = lit< tt
 upgrade_above upgrades.BundleFault = lit< tt
 upgrade_above upgrades.OutOfMemory = lit< tt
-
-salvage_above : (e : SalvageError) → 2 < salvage_status e
-salvage_above salvages.BadMagic = lit< tt
-salvage_above (salvages.MissingMeta file_name) = lit< tt
-salvage_above (salvages.BadMeta file_name) = lit< tt
-salvage_above (salvages.OpenArchive path) = lit< tt
-salvage_above (salvages.OpenRunLog path) = lit< tt
-salvage_above (salvages.DiskFault path) = lit< tt
-salvage_above salvages.OutOfMemory = lit< tt
 
 pub refusal_above : (e : SalvageRefusal) → 2 < refusal_status e
 refusal_above (Bundle e) = bundle_above e

@@ -28,13 +28,15 @@ use Rattle.rec_export.specs.declared.counts.Exported.{Exported}
 use Rattle.rec_export.specs.declared.settings.Settings.{Settings}
 use Rattle.rec_export.specs.Export.{Exports}
 use Rattle.rec_export.specs.Timelines.{DrawsTimeline}
+use Rattle.rec_packing.specs.declared.packing.Packed.{Packed}
+use Rattle.rec_packing.specs.Packing.{LeavesFiles as LeavesBundle, Packs}
 use Rattle.rec_words.specs.declared.usage.TheConstants.{USAGE}
 use Rattle.rec_words.specs.Usage.{versions_text}
 use Rattle.rec_words.specs.Words.{Asked, recording, tracing, replaying}
 use Rattle.rec_words.specs.Words.{reporting, informing, slotting, rerunning}
 use Rattle.rec_words.specs.Words.{sampling, upgrading, salvaging, living, packing, help, version}
 use Rattle.rec_program.specs.BundleTraces.{bundle_trace}
-use Rattle.rec_program.specs.Counts.{counts_line}
+use Rattle.rec_program.specs.Counts.{counts_line, packed_line}
 use Rattle.rec_program.specs.LiveRuns.{AcknowledgesAll, KeepsAcknowledged}
 use Rattle.rec_program.specs.LogTraces.{log_refusal, plain_log}
 use Rattle.rec_program.specs.Objects.{Objects, SourceGave, SourceFailed}
@@ -101,13 +103,18 @@ module _ {S B F D T G : Type 0} (o : Objects S B F D T G) where
       o.f1 o.o0 o.o1
       × KeepsAcknowledged o.source.left o.file.taken o.out.taken number settings.max_output o.s0
       o.f0 o.f1 o.o0 o.o1
+  Succeeds number (packing directory path settings) =
+      (p : Packed) × Packs o.source.left o.source.faults settings.session_limit o.s0 o.s1
+      (o.disk.files o.k0) (o.disk.files o.k1) directory path p
+      × OutTook o (packed_line p)
   Succeeds number help = OutTook o USAGE.now
   Succeeds number version = OutTook o versions_text
 
   -- What another status says of the bundle's sink: of an upgrade, that it is as it was, or the
   -- status is 10 and it took a proper prefix; of a salvage the same, or the status is 11 and it
   -- took the whole bundle. Of a recording that goes on, that its files hold the events that were
-  -- acknowledged
+  -- acknowledged. Of a directory that is packed, that no file has changed, but the temporary one; or
+  -- the status is 11 or 70, and the bundle stands there whole
   abbrev pub Stops : (List ℕ → ℕ) → Asked → ℕ → Type 0
   Stops number (upgrading path settings) status =
       (o.b1 ≡ o.b0)
@@ -122,6 +129,10 @@ module _ {S B F D T G : Type 0} (o : Objects S B F D T G) where
   Stops number (living path settings) status =
       KeepsAcknowledged o.source.left o.file.taken o.out.taken number settings.max_output o.s0 o.f0
       o.f1 o.o0 o.o1
+  Stops number (packing directory path settings) status =
+      LeavesBundle (o.disk.files o.k0) (o.disk.files o.k1) path
+      ⊎ (((status ≡ 11) ⊎ (status ≡ 70)) × ((p : Packed) × Packs o.source.left o.source.faults
+      settings.session_limit o.s0 o.s1 (o.disk.files o.k0) (o.disk.files o.k1) directory path p))
   Stops number asked status = ⊤
 
   -- only a recording that goes on changes a run's files, and only `pack` the disk
@@ -136,6 +147,7 @@ module _ {S B F D T G : Type 0} (o : Objects S B F D T G) where
 abbrev pub Judges : Asked → Option (List ℕ) → List ℕ → Type 0
 Judges (sampling n path settings) left bytes = bytes ≡ sample_session n
 Judges (living path settings) left bytes = ⊥
+Judges (packing directory path settings) left bytes = ⊥
 Judges help left bytes = ⊤
 Judges version left bytes = ⊤
 Judges asked left bytes = left ≡ Some bytes

@@ -5,6 +5,7 @@ use Rattle.std.specs.Prelude.{◌≡◌, ℕ, List, Option, Ok, Err, Result, Vec
 use Rattle.rec_container.specs.Causes.{Rose}
 use Rattle.rec_container.specs.Container.{Entry}
 use Rattle.rec_container.specs.Taking.{TookPart}
+use Rattle.rec_disk.specs.Disks.{Files}
 use Rattle.rec_portable.specs.declared.errors.PortableRecordingReadError.{
   PortableRecordingReadError,
 }
@@ -25,19 +26,23 @@ use Rattle.rec_export.specs.declared.settings.Settings.{Settings}
 use Rattle.rec_export.specs.Export.{Exports, Fails}
 use Rattle.rec_live_recording.specs.declared.errors.LiveError.{LiveError}
 use Rattle.rec_live_recording.specs.declared.live.RunFiles.{RunFiles}
+use Rattle.rec_packing.specs.declared.errors.PackError.TheVariants as packs
+use Rattle.rec_packing.specs.declared.errors.PackError.{PackError}
+use Rattle.rec_packing.specs.declared.packing.Packed.{Packed}
+use Rattle.rec_packing.specs.Packing.{IsRefused, LeavesFiles, Packs}
 use Rattle.rec_words.specs.declared.usage.TheConstants.{USAGE}
 use Rattle.rec_words.specs.Usage.{versions_text}
 use Rattle.rec_words.specs.Words.{Asked, recording, tracing, replaying}
 use Rattle.rec_words.specs.Words.{reporting, informing, slotting, rerunning}
-use Rattle.rec_words.specs.Words.{sampling, upgrading, salvaging, living, help, version}
-use Rattle.rec_faults.specs.DirectoryCommands.{live_shown, live_status}
+use Rattle.rec_words.specs.Words.{sampling, upgrading, salvaging, living, packing, help, version}
+use Rattle.rec_faults.specs.DirectoryCommands.{live_shown, live_status, pack_shown, pack_status}
 use Rattle.rec_faults.specs.FaultLine.{Shown, export_shown, line, sink_shown, words_shown}
 use Rattle.rec_faults.specs.ReadingLine.{reading_shown}
 use Rattle.rec_faults.specs.Status.{export_status, reading_status, words_status}
 use Rattle.rec_faults.specs.WritingCommands.{upgrade_shown, upgrade_status}
 use Rattle.rec_faults.specs.WritingFaults.{WritesFault}
 use Rattle.rec_program.specs.BundleTraces.{PrintsTrace}
-use Rattle.rec_program.specs.Counts.{counts_line}
+use Rattle.rec_program.specs.Counts.{counts_line, packed_line}
 use Rattle.rec_program.specs.declared.salvage_refusal.SalvageRefusal.TheVariants.{BundleFailed}
 use Rattle.rec_program.specs.declared.salvage_refusal.SalvageRefusal.{SalvageRefusal}
 use Rattle.rec_program.specs.LiveRuns.{Lives}
@@ -167,6 +172,31 @@ module _ {S F T G : Type 0} (left : S → Option (List ℕ)) (file_taken : F →
       ⊎ ((e : LiveError) × Lives left file_taken out_taken number most s0 f0 f1 o0 o1 (Err e)
       × Refuses live_shown live_status diag_taken diag_faults e status d0 d1)
 
+module _ {T G : Type 0} (out_taken : T → Option (List ℕ)) (out_faults : T → ℕ)
+    (diag_taken : G → Option (List ℕ)) (diag_faults : G → ℕ) where
+  -- what was packed was printed; or memory ran out for the line
+  abbrev pub TellsPacked : Packed → ℕ → T → T → G → G → Type 0
+  TellsPacked p status o0 o1 d0 d1 =
+      Prints out_taken out_faults diag_taken diag_faults (packed_line p) status o0 o1 d0 d1
+      ⊎ ((o1 ≡ o0)
+      × Refuses pack_shown pack_status diag_taken diag_faults packs.OutOfMemory status d0 d1)
+
+module _ {S D T G : Type 0} (left : S → Option (List ℕ)) (source_faults : S → ℕ)
+    (files : D → Option Files) (disk_faults : D → ℕ) (out_taken : T → Option (List ℕ))
+    (out_faults : T → ℕ) (diag_taken : G → Option (List ℕ)) (diag_faults : G → ℕ)
+    (directory path : List ℕ) where
+  -- a run's directory was packed, and what was packed was printed; or it wasn't, and the cause is
+  -- the status and is reported
+  abbrev pub RunsPack : Settings → ℕ → S → S → D → D → T → T → G → G → Type 0
+  RunsPack settings status s0 s1 k0 k1 o0 o1 d0 d1 =
+      ((p : Packed) × Packs left source_faults settings.session_limit s0 s1 (files k0) (files k1)
+      directory path p
+      × TellsPacked out_taken out_faults diag_taken diag_faults p status o0 o1 d0 d1)
+      ⊎ ((e : PackError) × IsRefused left source_faults settings.session_limit s0 s1 (files k0)
+      (files k1) directory path (disk_faults k0) (disk_faults k1) e
+      × LeavesFiles (files k0) (files k1) path × (o1 ≡ o0)
+      × Refuses pack_shown pack_status diag_taken diag_faults e status d0 d1)
+
 module _ {S B F D T G : Type 0} (o : Objects S B F D T G) (status : ℕ) where
   -- the same of a command that reads a bundle, and refuses as such commands do; it leaves the
   -- bundle's sink as it was
@@ -212,6 +242,11 @@ module _ {S B F D T G : Type 0} (o : Objects S B F D T G) (status : ℕ) where
   Runs number (Ok (living path settings)) =
       RunsLive o.source.left o.file.taken o.out.taken o.diag.taken o.diag.faults number
       settings.max_output status o.s0 o.f0 o.f1 o.o0 o.o1 o.d0 o.d1
+      × (o.b1 ≡ o.b0)
+  Runs number (Ok (packing directory path settings)) =
+      RunsPack o.source.left o.source.faults o.disk.files o.disk.faults o.out.taken o.out.faults
+      o.diag.taken o.diag.faults directory path settings status o.s0 o.s1 o.k0 o.k1 o.o0 o.o1 o.d0
+      o.d1
       × (o.b1 ≡ o.b0)
   Runs number (Ok help) = Tells USAGE.now
   Runs number (Ok version) = Tells versions_text

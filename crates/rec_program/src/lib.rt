@@ -11,6 +11,7 @@
 mod counts;
 mod live;
 mod log_trace;
+mod pack;
 mod program;
 mod reading;
 mod salvage;
@@ -22,8 +23,8 @@ mod trace;
 pub use program::run_program;
 pub use rec_export::{Exported, RecordExportError, Settings, laws, record_and_export};
 pub use rec_faults::{FAULTY_WORDS, Line, OUT_OF_MEMORY, Refusal, refuse, write_fault};
-pub use rec_reading::ReadingError;
 pub use rec_live_recording::RunFiles;
+pub use rec_reading::ReadingError;
 pub use rec_words::{Command, WordsError, bundle_path, directory_path, read_words};
 pub use streams::{Ended, Streams};
 pub use trace::{Trace, trace_text};

@@ -5,7 +5,7 @@ ghost use Rattle.rec_program.specs.Running.{RunsLive};
 use rec_container::{Sink, Source};
 use rec_export::Settings;
 use rec_faults::{SUCCESS, refuse};
-use rec_live_recording::{LiveEnd, LineReader, RunFiles, record_live};
+use rec_live_recording::{LineReader, LiveEnd, RunFiles, record_live};
 use rec_store::Sha256Namer;
 use std::alloc::Global;
 

@@ -18,13 +18,14 @@ ghost use Rattle.rec_program.specs.Running.{Prints, Records, RecordsSample, Runs
 ghost use Rattle.rec_program.specs.Running.{RunsUpgrade, ShowsMade, WritesSalvage};
 ghost use Rattle.rec_program.specs.Statuses.{Refuses};
 
+use crate::live::{LiveRun, live};
+use crate::pack::pack_directory;
 use crate::reading::read_bundle;
 use crate::salvage::{CountedSalvage, salvage_bundle};
 use crate::salvage_refusal::SalvageRefusal;
 use crate::sample::record_sample;
 use crate::streams::{Ended, Streams};
 use crate::trace::Trace;
-use crate::live::{LiveRun, live};
 use rec_container::{Sink, Source, write_all};
 use rec_disk::Disk;
 use rec_export::{Settings, record_and_export};
@@ -176,7 +177,7 @@ fn run<S: Source, B: Sink, F: Sink, D: Disk, T: Sink, G: Sink>(
         mut source,
         mut bundle,
         files,
-        disk,
+        mut disk,
         mut out,
         mut diag,
     } = streams;
@@ -209,31 +210,62 @@ fn run<S: Source, B: Sink, F: Sink, D: Disk, T: Sink, G: Sink>(
                 bundle: _,
                 settings,
             },
-        ) => record(alloc, &settings, &mut source, &mut bundle, &mut out, &mut diag),
+        ) => record(
+            alloc,
+            &settings,
+            &mut source,
+            &mut bundle,
+            &mut out,
+            &mut diag,
+        ),
         Ok(Command::Trace { settings }) => {
             let printer = Trace {
                 group_by: settings.group_by,
                 message_format: settings.message_format,
             };
-            show(read_bundle(alloc, &settings, &mut source, &printer), &mut out, &mut diag)
+            show(
+                read_bundle(alloc, &settings, &mut source, &printer),
+                &mut out,
+                &mut diag,
+            )
         }
         Ok(Command::Replay { output, settings }) => {
             let printer = Replay {
                 load_output: output,
             };
-            show(read_bundle(alloc, &settings, &mut source, &printer), &mut out, &mut diag)
+            show(
+                read_bundle(alloc, &settings, &mut source, &printer),
+                &mut out,
+                &mut diag,
+            )
         }
         Ok(Command::Report { settings }) => {
-            show(read_bundle(alloc, &settings, &mut source, &Report), &mut out, &mut diag)
+            show(
+                read_bundle(alloc, &settings, &mut source, &Report),
+                &mut out,
+                &mut diag,
+            )
         }
         Ok(Command::Info { settings }) => {
-            show(read_bundle(alloc, &settings, &mut source, &Info), &mut out, &mut diag)
+            show(
+                read_bundle(alloc, &settings, &mut source, &Info),
+                &mut out,
+                &mut diag,
+            )
         }
         Ok(Command::Slots { settings }) => {
-            show(read_bundle(alloc, &settings, &mut source, &Slots), &mut out, &mut diag)
+            show(
+                read_bundle(alloc, &settings, &mut source, &Slots),
+                &mut out,
+                &mut diag,
+            )
         }
         Ok(Command::Rerun { settings }) => {
-            show(read_bundle(alloc, &settings, &mut source, &Rerun), &mut out, &mut diag)
+            show(
+                read_bundle(alloc, &settings, &mut source, &Rerun),
+                &mut out,
+                &mut diag,
+            )
         }
         Ok(
             Command::Sample {
@@ -253,7 +285,30 @@ fn run<S: Source, B: Sink, F: Sink, D: Disk, T: Sink, G: Sink>(
                 bundle: _,
                 settings,
             },
-        ) => salvage(alloc, &settings, &mut source, &mut bundle, &mut out, &mut diag),
+        ) => salvage(
+            alloc,
+            &settings,
+            &mut source,
+            &mut bundle,
+            &mut out,
+            &mut diag,
+        ),
+        Ok(
+            Command::Pack {
+                directory,
+                bundle,
+                settings,
+            },
+        ) => pack_directory(
+            alloc,
+            directory,
+            bundle,
+            &settings,
+            &mut source,
+            &mut disk,
+            &mut out,
+            &mut diag,
+        ),
         Ok(Command::Help) => print(USAGE.as_bytes(), &mut out, &mut diag),
         Ok(Command::Version) => print(versions().as_bytes(), &mut out, &mut diag),
         Err(fault) => refuse(fault, &mut diag),
@@ -387,7 +442,7 @@ fn show<E: Refusal + Drop, T: Sink, G: Sink>(
 }
 
 /// Prints a text.
-fn print<T: Sink, G: Sink>(text: &[u8], out: &mut T, diag: &mut G) -> u8
+pub(crate) fn print<T: Sink, G: Sink>(text: &[u8], out: &mut T, diag: &mut G) -> u8
     ensures { Prints T.taken T.faults G.taken G.faults text.now result
         out.old out.new diag.old diag.new }
 {

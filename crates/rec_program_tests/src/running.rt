@@ -117,7 +117,10 @@ fn run(
     };
     let Ended { status, streams } = run_program(alloc, words, streams);
     let Streams {
-        bundle, out, diag, ..
+        bundle,
+        out,
+        diag,
+        ..
     } = streams;
     (status, Sinks { bundle, out, diag })
 }

@@ -45,7 +45,11 @@ pub fn salvage_dir<D: Disk>(
 ///
 /// `OpenArchive` exactly where the store is missing, `DiskFault` where the disk fails, or
 /// `OutOfMemory`.
-pub fn read_store<D: Disk>(alloc: Global, disk: &mut D, run_dir: &str) -> Result<Vec<u8>, SalvageError>
+pub fn read_store<D: Disk>(
+    alloc: Global,
+    disk: &mut D,
+    run_dir: &str,
+) -> Result<Vec<u8>, SalvageError>
     ensures ok { IfOk result
         (λ bytes. IsWhole (D.files disk.old) (path_of_store run_dir.now) bytes.items) }
     ensures err { IfErr result (StoreUnread (D.files disk.old) run_dir.now) }
@@ -67,7 +71,11 @@ pub fn read_store<D: Disk>(alloc: Global, disk: &mut D, run_dir: &str) -> Result
 ///
 /// `OpenRunLog` exactly where the log is missing, `DiskFault` where the disk fails, or
 /// `OutOfMemory`.
-pub fn read_log<D: Disk>(alloc: Global, disk: &mut D, run_dir: &str) -> Result<Vec<u8>, SalvageError>
+pub fn read_log<D: Disk>(
+    alloc: Global,
+    disk: &mut D,
+    run_dir: &str,
+) -> Result<Vec<u8>, SalvageError>
     ensures ok { IfOk result
         (λ bytes. IsWhole (D.files disk.old) (path_of_log run_dir.now) bytes.items) }
     ensures err { IfErr result (LogUnread (D.files disk.old) run_dir.now) }

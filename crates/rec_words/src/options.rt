@@ -137,10 +137,8 @@ impl CommandName {
     {
         match self {
             CommandName::Sample | CommandName::Pack => 3,
-            CommandName::Record
-            | CommandName::Upgrade
-            | CommandName::Salvage
-            | CommandName::Live => 2,
+            CommandName::Record | CommandName::Upgrade | CommandName::Salvage | CommandName::Live =>
+                2,
             CommandName::Trace
             | CommandName::Replay
             | CommandName::Report
