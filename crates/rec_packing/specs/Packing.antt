@@ -1,7 +1,7 @@
 -- The bundle of a run's directory.
 use Rattle.std.specs.List.{ends_with}
-use Rattle.std.specs.Prelude.{◌≡◌, ◌⊎◌, ◌==◌, ◌||◌, ℕ, ◌≤◌, List, [], ◌∷◌, length, nat_eq}
-use Rattle.std.specs.Prelude.{Bool, true, false, Option, None, Some, Result, Ok}
+use Rattle.std.specs.Prelude.{◌≡◌, ◌⊎◌, ◌==◌, ◌||◌, ℕ, List, [], ◌∷◌, length, nat_eq}
+use Rattle.std.specs.Prelude.{Bool, true, false, Option, None, Some, Ok}
 use Rattle.rec_container.specs.Causes.{Rose}
 use Rattle.rec_container.specs.Container.{Entry, IsContainer}
 use Rattle.rec_container.specs.declared.errors.ContainerError.{ContainerError}

@@ -1,6 +1,6 @@
 -- The run of a directory, by its manifest and by the head that the run ended with.
-use Rattle.std.specs.Prelude.{◌≡◌, ℕ, List, [], Option, None, Some, Result, Ok, Err, Bool, true}
-use Rattle.std.specs.Prelude.{◌↔◌, IsTrue, ◌⊎◌}
+use Rattle.std.specs.Prelude.{◌≡◌, ℕ, List, [], Option, None, Some}
+use Rattle.std.specs.Prelude.{◌⊎◌}
 use Rattle.rec_container.specs.Causes.{Rose}
 use Rattle.rec_container.specs.declared.within.ReadError.{ReadError}
 use Rattle.rec_container.specs.Within.{Gave, Unread}
@@ -10,7 +10,6 @@ use Rattle.rec_format.specs.declared.head.SessionHead.{SessionHead}
 use Rattle.rec_format.specs.declared.manifest.PortableManifest.{PortableManifest}
 use Rattle.rec_format.specs.declared.run.RecordedRunInfo.{RecordedRunInfo}
 use Rattle.rec_format.specs.RunForms.{manifest_form}
-use Rattle.rec_format.specs.Runs.{info_of}
 use Rattle.rec_codec.specs.Lines.{text_of}
 use Rattle.rec_store.specs.Entries.{manifest_name}
 use Rattle.rec_directory.specs.Files.{IsMissing, IsWhole}

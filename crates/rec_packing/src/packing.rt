@@ -2,6 +2,7 @@
 ghost use Rattle.std.specs.Prelude.{◌≡◌, ◌≤◌, IfOk, IfErr, Ok};
 ghost use Rattle.rec_portable_writer.specs.Names.{temporary_path as temporary_of};
 ghost use Rattle.rec_portable_writer.specs.Replacing.{Replaces};
+ghost use Rattle.rec_packing.specs.Faults as faults;
 ghost use Rattle.rec_packing.specs.Packing.{Ends, IsRefused, LeavesFiles, Makes, MakesNone, Packs};
 ghost use Rattle.rec_packing.specs.Packing.{Unwritten, ends_a_line, is_whole};
 
@@ -134,13 +135,27 @@ fn write<D: Disk>(alloc: Global, disk: &mut D, path: &str, made: &Made) -> Resul
         (λ _. LeavesFiles (D.files disk.old) (D.files disk.new) path.now) }
 {
     let temporary = temporary_path(alloc, path)?;
-    match replace_file(disk, temporary.as_str(), path, made.salvaged.bundle.as_slice()) {
+    match replace_file(
+        disk,
+        temporary.as_str(),
+        path,
+        made.salvaged.bundle.as_slice(),
+    ) {
         Ok(()) => Ok(Packed {
             events: made.salvaged.events,
             outputs: made.salvaged.outputs,
             stopped: !made.ended,
         }),
-        Err(DiskError::OutOfMemory) => Err(PackError::OutOfMemory),
-        Err(_) => Err(PackError::BundleFault),
+        Err(error) => Err(write_fault(error)),
+    }
+}
+
+/// Returns why a bundle isn't written.
+fn write_fault(error: DiskError) -> PackError
+    ensures { result ≡ faults.write_fault error }
+{
+    match error {
+        DiskError::Missing | DiskError::DiskFailed => PackError::BundleFault,
+        DiskError::OutOfMemory => PackError::OutOfMemory,
     }
 }

@@ -1,4 +1,4 @@
-use Rattle.rec_packing.proofs.Packed.{makes}
+use Rattle.rec_packing.proofs.Made.{makes}
 use Rattle.rec_packing.proofs.packing.make.Goals as goal
 
 pub returns-clause-ok : goal.returns-clause-ok
