@@ -30,7 +30,7 @@ use Rattle.rec_salvage.specs.Refusals.{IsRefusal, prefix_refusal}
 use Rattle.rec_salvage.specs.Salvages.{Salvages}
 use Rattle.rec_export.proofs.Complete.{no_more, same_session}
 use Rattle.rec_export.specs.declared.settings.Settings.{Settings}
-use Rattle.rec_faults.specs.WritingCommands.{run_part_status, salvage_status, upgrade_status}
+use Rattle.rec_faults.specs.WritingCommands.{run_part_status, upgrade_status}
 use Rattle.rec_program.proofs.BundlesShown.{withheld}
 use Rattle.rec_program.proofs.Commands.{printed_of}
 use Rattle.rec_program.proofs.RunsSalvaged.{stopped_unfound}
