@@ -101,7 +101,8 @@ returns-clause-valid g c = λ session known.
     end_valid (recording_refusal (number c.args.namer.now) c.args.max_output session ≡ None)
     (HasRun number c.args.namer.now c.args.max_output session (events_after_head session)
     (g.M.Sink.taken files.manifest) (g.M.Sink.taken run.new.manifest) r)
-    (faults files.store ≤ faults r.store.sink) run.result c.end_recording-result.result.0 c.end_recording-result.ensures.ok whole
+    (faults files.store ≤ faults r.store.sink) run.result c.end_recording-result.result.0
+    c.end_recording-result.ensures.ok whole
 
 pub returns-clause-cause : goal.returns-clause-cause
 returns-clause-cause g c = λ session known.
