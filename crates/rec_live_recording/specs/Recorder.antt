@@ -16,7 +16,7 @@ use Rattle.rec_store.specs.Saved.{HasAccepted, required_paths}
 use Rattle.rec_errors.specs.declared.export_error.RecordExportError.TheVariants.{NameCollision}
 use Rattle.rec_errors.specs.declared.export_error.RecordExportError.{RecordExportError}
 use Rattle.rec_export.specs.Recorded.{AreRecorded}
-use Rattle.rec_export.specs.Session.{events_of, lines_refusal}
+use Rattle.rec_export.specs.Session.{event_at, events_of, line_refusal, lines_refusal}
 use Rattle.rec_live_recording.specs.declared.errors.LiveError.{LiveError}
 use Rattle.rec_live_recording.specs.Refusals.{ComesOf, IsLineRefused, IsRefused, Overflows}
 
@@ -96,3 +96,14 @@ module _ {S L N : Type 0} (faults : S → ℕ) (log_faults : L → ℕ) where
         (Rose (log_faults old.log) (log_faults new.log)) (Rose out out')
         (IsRefused failed limit total (lines_refusal (number namer) m [] lines)
         (Overflows (number namer) m head (events_of lines))) e
+
+  -- the event of a line, if it has one, was recorded after those so far, which are so many; or why
+  -- it wasn't
+  abbrev pub RecordsLine : (N → List ℕ → ℕ) → NumberedLine → ℕ → Recording S L N → Recording S L N
+      → ℕ → ℕ → Result ℕ LiveError → Type 0
+  RecordsLine number line count old new out out' result =
+      (namer : N) (m : ℕ) (head : SessionHead) (events : List LiveEvent)
+      → HasRecorded number namer m head events old → count ≡ length events
+      → RecordsMore number namer m head events (event_at line)
+      (line_refusal (number namer) m (outputs_stored (number namer) m events) line) old new out out'
+      result

@@ -10,17 +10,16 @@ ghost use Rattle.rec_codec.specs.Event.{LiveEvent};
 ghost use Rattle.rec_codec.specs.EventForms.{kind_loaded};
 ghost use Rattle.rec_codec.specs.LineView.{line_view};
 ghost use Rattle.rec_codec.specs.Live.{is_loaded};
-ghost use Rattle.rec_store.specs.Bundle.{outputs_stored};
 ghost use Rattle.rec_store.specs.Recording.{KeepsCounts, has_failed};
 ghost use Rattle.rec_store.specs.Saved.{HasAccepted};
 ghost use Rattle.rec_export.specs.Bundle.{session_head};
-ghost use Rattle.rec_export.specs.Session.{event_at, line_refusal};
 ghost use Rattle.rec_live_recording.specs.Acknowledgements.{Tells};
 ghost use Rattle.rec_live_recording.specs.Finished.{HasManifest, HasRun};
 ghost use Rattle.rec_live_recording.specs.LineReading.{HasNext, IsLeft};
 ghost use Rattle.rec_live_recording.specs.Live.{RecordsAll, RecordsNext, Stands};
 ghost use Rattle.rec_live_recording.specs.Recorder.{Accepts, HasBegun, HasRecorded, HasSame};
-ghost use Rattle.rec_live_recording.specs.Recorder.{RecordsLines, RecordsMore, event_collision};
+ghost use Rattle.rec_live_recording.specs.Recorder.{RecordsLine, RecordsLines, RecordsMore};
+ghost use Rattle.rec_live_recording.specs.Recorder.{event_collision};
 ghost use Rattle.rec_live_recording.specs.Refusals.{ComesOf, IsLineRefused, IsRefused, Overflows};
 ghost use Rattle.rec_live_recording.specs.Refusals.{HeadOverflows, SessionOverflows};
 ghost use Rattle.rec_live_recording.specs.Refusals.{head_refusal, recording_refusal};
@@ -267,13 +266,7 @@ fn record_line<S: Sink, L: Sink, N: OutputNamer, O: Sink>(
     ensures same { HasSame recorder.old recorder.new }
     ensures counted { IfOk result
         (λ n. n ≡ count + length (option_to_list (event_of line.entry.bytes.now))) }
-    ensures recorded { (namer : N) (m : ℕ) (head : SessionHead) (events : List LiveEvent)
-        → HasRecorded N.number namer m head events recorder.old
-        → count ≡ length events
-        → RecordsMore S.faults L.faults N.number namer m head events
-        (event_at (line_view line.entry))
-        (line_refusal (N.number namer) m (outputs_stored (N.number namer) m events)
-        (line_view line.entry))
+    ensures recorded { RecordsLine S.faults L.faults N.number (line_view line.entry) count
         recorder.old recorder.new (O.faults out.old) (O.faults out.new) result }
 {
     match read_line(alloc, line, scratch) {
