@@ -124,8 +124,8 @@ pub fn record_live<I: Source, M: Sink, S: Sink, L: Sink, N: OutputNamer, O: Sink
         (length session) (recording_refusal (N.number namer.now) max_output session)
         (SessionOverflows (N.number namer.now) max_output session))) }
 
-    // Where nothing failed, a session within its limit that nothing refuses is recorded, but for
-    // want of memory.
+    // Where nothing failed, a session within its limit that nothing refuses is recorded, unless
+    // memory runs out.
     ensures completes { (session : List ℕ)
         → I.left lines.old.source ≡ Some session
         → length session ≤ lines.old.limit
