@@ -1,4 +1,9 @@
 mod Begun
+mod Causes
+mod EventsRecorded
 mod LinesRead
+mod LinesRecorded
 mod Recorded
+mod SessionEnds
+mod SessionRecorded
 mod Told

@@ -53,6 +53,12 @@ module _ {S : Type 0} where
   Ends old new true = (0 < length old.line) × (new.number ≡ old.number + 1)
   Ends old new false = (old.line ≡ []) × (new.number ≡ old.number)
 
+  -- a line was read, of the same source, which has not failed
+  pub record HasNext (failures : S → ℕ) (old new : LineReading S) : Type 0 where
+    pub limit : new.limit ≡ old.limit
+    pub number : new.number ≡ old.number + 1
+    pub faults : failures new.source ≡ failures old.source
+
   -- a fault of the source comes only where its count rose, and no other answer changes the count
   abbrev pub IsCaused : (S → ℕ) → LineReading S → LineReading S → Result Bool ReadError → Type 0
   IsCaused faults old new (Ok some) = faults new.source ≡ faults old.source

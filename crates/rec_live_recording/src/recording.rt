@@ -1,17 +1,30 @@
 //! The head of a session and its events, one after the other.
+ghost use Rattle.std.specs.Io.KnownBytes.{Appends};
+ghost use Rattle.std.specs.Option.{option_to_list};
 ghost use Rattle.std.specs.Prelude.{◌≡◌, ◌≤◌, ◌+◌, List, ℕ, [], Option, false, true, length};
-ghost use Rattle.std.specs.Prelude.{IfOk, OnOk, Some};
+ghost use Rattle.std.specs.Prelude.{◌⊎◌, IfErr, IfOk, None, OnOk, Some};
+ghost use Rattle.rec_container.specs.Causes.{Rose};
+ghost use Rattle.rec_format.specs.declared.head.SessionHead.{SessionHead};
 ghost use Rattle.rec_format.specs.HeadForms.{IsHead};
 ghost use Rattle.rec_codec.specs.Event.{LiveEvent};
 ghost use Rattle.rec_codec.specs.EventForms.{kind_loaded};
+ghost use Rattle.rec_codec.specs.LineView.{line_view};
 ghost use Rattle.rec_codec.specs.Live.{is_loaded};
-ghost use Rattle.rec_store.specs.Recording.{has_failed};
+ghost use Rattle.rec_store.specs.Recording.{KeepsCounts, has_failed};
 ghost use Rattle.rec_store.specs.Saved.{HasAccepted};
-ghost use Rattle.rec_live_recording.specs.LineReading.{IsLeft};
+ghost use Rattle.rec_export.specs.Bundle.{session_head};
+ghost use Rattle.rec_live_recording.specs.Acknowledgements.{Tells};
+ghost use Rattle.rec_live_recording.specs.Finished.{HasManifest, HasRun};
+ghost use Rattle.rec_live_recording.specs.LineReading.{HasNext, IsLeft};
 ghost use Rattle.rec_live_recording.specs.Live.{RecordsAll, RecordsNext, Stands};
-ghost use Rattle.rec_live_recording.specs.Recorder.{Accepts, HasBegun, HasSame};
+ghost use Rattle.rec_live_recording.specs.Recorder.{Accepts, HasBegun, HasRecorded, HasSame};
+ghost use Rattle.rec_live_recording.specs.Recorder.{RecordsLine, RecordsLines, RecordsMore};
+ghost use Rattle.rec_live_recording.specs.Recorder.{event_collision};
+ghost use Rattle.rec_live_recording.specs.Refusals.{ComesOf, IsLineRefused, IsRefused, Overflows};
+ghost use Rattle.rec_live_recording.specs.Refusals.{HeadOverflows, SessionOverflows};
+ghost use Rattle.rec_live_recording.specs.Refusals.{head_refusal, recording_refusal};
 ghost use Rattle.rec_live_recording.specs.Session.{LeavesLines, begun_manifest, event_of};
-ghost use Rattle.rec_live_recording.specs.Session.{events_after_head, events_in};
+ghost use Rattle.rec_live_recording.specs.Session.{events_after_head, events_in, lines_after};
 
 use crate::acknowledging::acknowledge;
 use crate::errors::{LiveError, store_fault};
@@ -35,14 +48,37 @@ pub fn record_session<I: Source, M: Sink, S: Sink, L: Sink, N: OutputNamer, O: S
     recorder: &mut RunRecorder<'_, S, L, N>,
     out: &mut O,
 ) -> Result<u64, LiveError>
+    requires first { lines.old.number ≡ 0 }
     requires sound { has_failed recorder.old ≡ false }
     requires empty { recorder.old.store.entries ≡ [] }
+    requires unlogged { recorder.old.log_bytes ≡ 0 }
+    ensures sound { OnOk result (has_failed recorder.new ≡ false) }
     ensures kept { (total : ℕ) (text : List ℕ)
         → IsLeft I.left total text lines.old
         → HasAccepted S.taken L.taken N.number [] recorder.old
         → RecordsAll S.taken L.taken O.taken N.number (O.taken out.old) (events_after_head text)
         result recorder.new out.new }
     ensures same { HasSame recorder.old recorder.new }
+    ensures begun { (total : ℕ) (text : List ℕ)
+        → IsLeft I.left total text lines.old
+        → Tells (O.taken out.old) (O.taken out.new) 0
+        ⊎ HasManifest text (M.taken manifest.old) (M.taken manifest.new) }
+    ensures whole { (total : ℕ) (text : List ℕ)
+        → IsLeft I.left total text lines.old
+        → OnOk result
+        ((recording_refusal (N.number recorder.old.namer) recorder.old.max_output text ≡ None)
+        × HasRun N.number recorder.old.namer recorder.old.max_output text (events_after_head text)
+        (M.taken manifest.old) (M.taken manifest.new) recorder.new
+        × (S.faults recorder.old.store.sink ≤ S.faults recorder.new.store.sink)) }
+    ensures cause { (total : ℕ) (text : List ℕ)
+        → IsLeft I.left total text lines.old
+        → IfErr result (ComesOf (Rose (M.faults manifest.old) (M.faults manifest.new))
+        (Rose (S.faults recorder.old.store.sink) (S.faults recorder.new.store.sink))
+        (Rose (L.faults recorder.old.log) (L.faults recorder.new.log))
+        (Rose (O.faults out.old) (O.faults out.new))
+        (IsRefused (Rose (I.faults lines.old.source) (I.faults lines.new.source)) lines.old.limit
+        total (recording_refusal (N.number recorder.old.namer) recorder.old.max_output text)
+        (SessionOverflows (N.number recorder.old.namer) recorder.old.max_output text))) }
 {
     record_head(alloc, lines, manifest, recorder)?;
     acknowledge(alloc, 0, out)?;
@@ -58,11 +94,25 @@ fn record_head<I: Source, M: Sink, S: Sink, L: Sink, N: OutputNamer>(
 ) -> Result<(), LiveError>
     requires sound { has_failed recorder.old ≡ false }
     requires empty { recorder.old.store.entries ≡ [] }
+    requires unlogged { recorder.old.log_bytes ≡ 0 }
     ensures read { (total : ℕ) (text : List ℕ)
         → IsLeft I.left total text lines.old
         → OnOk result (LeavesLines I.left total text lines.new) }
+    ensures next { OnOk result (HasNext I.faults lines.old lines.new) }
     ensures begun { OnOk result (HasBegun S.taken L.taken N.number recorder.old recorder.new) }
     ensures same { HasSame recorder.old recorder.new }
+    ensures run { (total : ℕ) (text : List ℕ)
+        → IsLeft I.left total text lines.old
+        → OnOk result (HasRun N.number recorder.old.namer recorder.old.max_output text []
+        (M.taken manifest.old) (M.taken manifest.new) recorder.new) }
+    ensures cause { (total : ℕ) (text : List ℕ)
+        → IsLeft I.left total text lines.old
+        → IfErr result (ComesOf (Rose (M.faults manifest.old) (M.faults manifest.new))
+        (Rose (S.faults recorder.old.store.sink) (S.faults recorder.new.store.sink)) ⊥ ⊥
+        (IsRefused (Rose (I.faults lines.old.source) (I.faults lines.new.source)) lines.old.limit
+        total (head_refusal (session_head text))
+        (HeadOverflows (N.number recorder.old.namer) recorder.old.max_output text))) }
+    ensures later { OnOk result (KeepsCounts S.faults L.faults recorder.old recorder.new) }
 {
     let head = next_head(alloc, lines)?;
     let result = write_head(alloc, &head, manifest, recorder);
@@ -77,6 +127,15 @@ fn next_head<I: Source>(alloc: Global, lines: &mut LineReader<I>) -> Result<Sess
         → IsLeft I.left total text lines.old
         → OnOk result (LeavesLines I.left total text lines.new) }
     ensures known { IfOk result IsHead }
+    ensures next { OnOk result (HasNext I.faults lines.old lines.new) }
+    ensures head { (total : ℕ) (text : List ℕ)
+        → IsLeft I.left total text lines.old
+        → IfOk result (λ head. session_head text ≡ Some head) }
+    ensures cause { (total : ℕ) (text : List ℕ)
+        → IsLeft I.left total text lines.old
+        → IfErr result (ComesOf ⊥ ⊥ ⊥ ⊥
+        (IsRefused (Rose (I.faults lines.old.source) (I.faults lines.new.source)) lines.old.limit
+        total (head_refusal (session_head text)) ⊥)) }
 {
     if !lines.read_line()? {
         return Err(LiveError::Refused(RecordExportError::ParseHead));
@@ -94,15 +153,25 @@ fn write_head<M: Sink, S: Sink, L: Sink, N: OutputNamer>(
 ) -> Result<(), LiveError>
     requires sound { has_failed recorder.old ≡ false }
     requires empty { recorder.old.store.entries ≡ [] }
+    requires unlogged { recorder.old.log_bytes ≡ 0 }
     ensures begun { IsHead head.now
         → OnOk result (HasBegun S.taken L.taken N.number recorder.old recorder.new) }
     ensures same { HasSame recorder.old recorder.new }
+    ensures manifest { OnOk result
+        (Appends (M.taken manifest.old) (M.taken manifest.new) (begun_manifest head.now)) }
+    ensures recorded { OnOk result (HasRecorded N.number recorder.old.namer recorder.old.max_output
+        head.now [] recorder.new) }
+    ensures cause { IfErr result (ComesOf (Rose (M.faults manifest.old) (M.faults manifest.new))
+        (Rose (S.faults recorder.old.store.sink) (S.faults recorder.new.store.sink)) ⊥ ⊥
+        (IsLineRefused None
+        (Overflows (N.number recorder.old.namer) recorder.old.max_output head.now []))) }
+    ensures later { OnOk result (KeepsCounts S.faults L.faults recorder.old recorder.new) }
 {
     let text = manifest_text(alloc, head)?;
-    if write_all(manifest, &text).is_err() {
-        return Err(LiveError::ManifestFault);
+    match write_all(manifest, &text) {
+        Ok(()) => store_head(head, recorder),
+        Err(_) => Err(LiveError::ManifestFault),
     }
-    store_head(head, recorder)
 }
 
 /// Stores the metadata of a head.
@@ -112,9 +181,17 @@ fn store_head<S: Sink, L: Sink, N: OutputNamer>(
 ) -> Result<(), LiveError>
     requires sound { has_failed recorder.old ≡ false }
     requires empty { recorder.old.store.entries ≡ [] }
+    requires unlogged { recorder.old.log_bytes ≡ 0 }
     ensures begun { IsHead head.now
         → OnOk result (HasBegun S.taken L.taken N.number recorder.old recorder.new) }
     ensures same { HasSame recorder.old recorder.new }
+    ensures recorded { OnOk result (HasRecorded N.number recorder.old.namer recorder.old.max_output
+        head.now [] recorder.new) }
+    ensures cause { IfErr result (ComesOf ⊥
+        (Rose (S.faults recorder.old.store.sink) (S.faults recorder.new.store.sink)) ⊥ ⊥
+        (IsLineRefused None
+        (Overflows (N.number recorder.old.namer) recorder.old.max_output head.now []))) }
+    ensures later { OnOk result (KeepsCounts S.faults L.faults recorder.old recorder.new) }
 {
     match write_metadata(
         recorder,
@@ -153,6 +230,14 @@ fn record_events<I: Source, S: Sink, L: Sink, N: OutputNamer, O: Sink>(
         → RecordsAll S.taken L.taken O.taken N.number before (events_in text) result recorder.new
         out.new }
     ensures same { HasSame recorder.old recorder.new }
+    ensures sound { OnOk result (has_failed recorder.new ≡ false) }
+    ensures recorded { (total : ℕ) (text : List ℕ) (namer : N) (m : ℕ) (head : SessionHead)
+        → IsLeft I.left total text lines.old
+        → HasRecorded N.number namer m head [] recorder.old
+        → RecordsLines S.faults L.faults N.number namer m head
+        (Rose (I.faults lines.old.source) (I.faults lines.new.source)) lines.old.limit total
+        (lines_after lines.old.number text) recorder.old recorder.new (O.faults out.old)
+        (O.faults out.new) result }
 {
     let mut scratch = Scratch::new(alloc);
     let mut count = 0u64;
@@ -179,6 +264,10 @@ fn record_line<S: Sink, L: Sink, N: OutputNamer, O: Sink>(
         → RecordsNext S.taken L.taken O.taken N.number before events
         (event_of line.entry.bytes.now) later result recorder.new out.new }
     ensures same { HasSame recorder.old recorder.new }
+    ensures counted { IfOk result
+        (λ n. n ≡ count + length (option_to_list (event_of line.entry.bytes.now))) }
+    ensures recorded { RecordsLine S.faults L.faults N.number (line_view line.entry) count
+        recorder.old recorder.new (O.faults out.old) (O.faults out.new) result }
 {
     match read_line(alloc, line, scratch) {
         None => Ok(count),
@@ -204,6 +293,13 @@ fn record_event<S: Sink, L: Sink, N: OutputNamer, O: Sink>(
         → RecordsNext S.taken L.taken O.taken N.number before events (Some event) later result
         recorder.new out.new }
     ensures same { HasSame recorder.old recorder.new }
+    ensures counted { IfOk result (λ n. n ≡ count + 1) }
+    ensures recorded { (namer : N) (m : ℕ) (head : SessionHead) (events : List LiveEvent)
+        → HasRecorded N.number namer m head events recorder.old
+        → count ≡ length events
+        → RecordsMore S.faults L.faults N.number namer m head events (Some event)
+        (event_collision (N.number namer) m events event)
+        recorder.old recorder.new (O.faults out.old) (O.faults out.new) result }
 {
     accept(event, recorder)?;
     let Some(count) = count.checked_add(1) else {
@@ -223,6 +319,10 @@ fn accept<S: Sink, L: Sink, N: OutputNamer>(
     ensures sound { OnOk result (has_failed recorder.new ≡ false) }
     ensures accepted { Accepts S.taken L.taken N.number recorder.old recorder.new event result }
     ensures same { HasSame recorder.old recorder.new }
+    ensures recorded { (namer : N) (m : ℕ) (head : SessionHead) (events : List LiveEvent)
+        → HasRecorded N.number namer m head events recorder.old
+        → RecordsMore S.faults L.faults N.number namer m head events (Some event)
+        (event_collision (N.number namer) m events event) recorder.old recorder.new 0 0 result }
 {
     match recorder.write_event(event) {
         Ok(()) => Ok(()),

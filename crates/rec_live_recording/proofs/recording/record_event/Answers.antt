@@ -1,5 +1,7 @@
-use Rattle.std.proofs.Common.{rules, ◌≡◌, ℕ, ◌+◌, Some, Result, ap, subst, sym, ◌∙◌}
+use Rattle.std.proofs.Common.{rules, ◌≡◌, ℕ, ◌+◌, ◌^◌, ◌≤◌, Some, Result, ap, subst, sym, ◌∙◌}
+use Rattle.std.proofs.Common.{refl, inl, inr}
 use Rattle.std.proofs.lemmas.Result.{err_from_is_err_and}
+use Rattle.rec_live_recording.proofs.EventsRecorded.{uncountable}
 use Rattle.rec_live_recording.proofs.Recorded.{records_event, records_refused}
 use Rattle.rec_live_recording.proofs.recording.record_event.Goals as goal
 use Rattle.rec_live_recording.specs.declared.errors.LiveError.{LiveError}
@@ -23,3 +25,12 @@ returns-clause-kept g c = λ before events later h is.
     later c.args.event c.args.recorder.now c.accept.new.recorder c.args.out.now
     c.acknowledge.new.out h g.O.Sink.faults c.in-Some.count (next ∙ ap (λ n. n + 1) is)
     c.in_ok-accept.ensures.accepted c.in_ok-acknowledge.ensures
+
+pub returns-in_default-clause-recorded : goal.returns-in_default-clause-recorded
+returns-in_default-clause-recorded g c = λ namer m head events has is.
+    let long : 2 ^ 64 ≤ c.args.count + 1 = search rules in
+    inr (inl (
+      refl,
+      inl (uncountable (g.N.OutputNamer.number namer) m events c.args.event
+          c.args.count is long),
+    ))
