@@ -1,12 +1,13 @@
--- What a recording that goes on has told at its end.
+-- What a recording that goes on has told and finished at its end.
 use Rattle.std.proofs.Common.{◌≡◌, ◌+◌, ℕ, List, [], length, Option, Some, Result, Ok, Err, subst}
 use Rattle.std.specs.Io.KnownBytes.{Appends}
-use Rattle.std.specs.Prelude.{IfOk}
+use Rattle.std.specs.Prelude.{IfOk, OnOk}
 use Rattle.rec_live_recording.specs.Acknowledgements.{count_lines}
 use Rattle.rec_live_recording.specs.declared.errors.LiveError.{LiveError}
 use Rattle.rec_live_recording.specs.declared.live.RunFiles.{RunFiles}
+use Rattle.rec_live_recording.specs.Finished.{IsFinished}
 use Rattle.rec_live_recording.specs.Session.{events_after_head}
-use Rattle.rec_program.specs.LiveRuns.{AcknowledgesAll}
+use Rattle.rec_program.specs.LiveRuns.{AcknowledgesAll, FinishesFiles}
 
 -- each event was acknowledged where the recording was whole
 pub all_told : {S F T : Type 0} (left : S → Option (List ℕ)) (taken : F → Option (List ℕ))
@@ -21,3 +22,14 @@ all_told left taken out_taken number most s0 f0 f1 o0 o1 (Ok count) told =
     let t = told session known store log in
     subst (λ (n : ℕ). Appends (out_taken o0) (out_taken o1) (count_lines (n + 1))) t.0 t.1
 all_told left taken out_taken number most s0 f0 f1 o0 o1 (Err e) told = tt
+
+-- the files were finished where the recording was whole
+pub files_whole : {S F T : Type 0} (left : S → Option (List ℕ)) (taken : F → Option (List ℕ))
+    (out_taken : T → Option (List ℕ)) (number : List ℕ → ℕ) (most : ℕ) (s0 : S)
+    (f0 f1 : RunFiles F F F) (o0 o1 : T) (r : Result ℕ LiveError)
+    → ((session : List ℕ) → left s0 ≡ Some session → taken f0.store ≡ Some []
+    → taken f0.log ≡ Some [] → OnOk r (IsFinished number most session (taken f0.manifest)
+    (taken f1.manifest) (taken f1.log) (taken f1.store)))
+    → OnOk r (FinishesFiles left taken out_taken number most s0 f0 f1 o0 o1)
+files_whole left taken out_taken number most s0 f0 f1 o0 o1 (Ok count) finished = finished
+files_whole left taken out_taken number most s0 f0 f1 o0 o1 (Err e) finished = tt

@@ -118,7 +118,7 @@ module _ {S B F D T G : Type 0} (o : Objects S B F D T G) (status : ℕ) where
       o.out.faults o.diag.taken o.diag.faults settings status o.s0 o.s1 o.b0 o.b1 o.o0 o.o1 o.d0
       o.d1 zeroed runs
   succeeds number (living path settings) zeroed ((Ok count, lives, told), kept) =
-      (lives.all, lives.kept)
+      (lives.all, lives.whole, lives.valid)
   succeeds number (living path settings) zeroed ((Err e, lives, told), kept) =
       absurd (let above = live_above e in let is = told.0 in omega (arith, above, is, zeroed))
   succeeds number (packing directory path settings) zeroed (inl (p, packs, inl (inl t)), kept) =

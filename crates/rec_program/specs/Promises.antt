@@ -28,6 +28,7 @@ use Rattle.rec_export.specs.declared.counts.Exported.{Exported}
 use Rattle.rec_export.specs.declared.settings.Settings.{Settings}
 use Rattle.rec_export.specs.Export.{Exports}
 use Rattle.rec_export.specs.Timelines.{DrawsTimeline}
+use Rattle.rec_live_recording.specs.Refusals.{recording_refusal}
 use Rattle.rec_packing.specs.declared.packing.Packed.{Packed}
 use Rattle.rec_packing.specs.Packing.{LeavesFiles as LeavesBundle, Packs}
 use Rattle.rec_words.specs.declared.usage.TheConstants.{USAGE}
@@ -37,7 +38,7 @@ use Rattle.rec_words.specs.Words.{reporting, informing, slotting, rerunning}
 use Rattle.rec_words.specs.Words.{sampling, upgrading, salvaging, living, packing, help, version}
 use Rattle.rec_program.specs.BundleTraces.{bundle_trace}
 use Rattle.rec_program.specs.Counts.{counts_line, packed_line}
-use Rattle.rec_program.specs.LiveRuns.{AcknowledgesAll, KeepsAcknowledged}
+use Rattle.rec_program.specs.LiveRuns.{AcknowledgesAll, FinishesFiles, KeepsAcknowledged}
 use Rattle.rec_program.specs.LogTraces.{log_refusal, plain_log}
 use Rattle.rec_program.specs.Objects.{Objects, SourceGave, SourceFailed}
 use Rattle.rec_program.specs.Objects.{BundleTook, BundleTookPart, BundleFailed, OutTook, OutFailed}
@@ -101,8 +102,10 @@ module _ {S B F D T G : Type 0} (o : Objects S B F D T G) where
   Succeeds number (living path settings) =
       AcknowledgesAll o.source.left o.file.taken o.out.taken number settings.max_output o.s0 o.f0
       o.f1 o.o0 o.o1
-      × KeepsAcknowledged o.source.left o.file.taken o.out.taken number settings.max_output o.s0
-      o.f0 o.f1 o.o0 o.o1
+      × FinishesFiles o.source.left o.file.taken o.out.taken number settings.max_output o.s0 o.f0
+      o.f1 o.o0 o.o1
+      × ((session : List ℕ) → o.source.left o.s0 ≡ Some session
+      → recording_refusal number settings.max_output session ≡ None)
   Succeeds number (packing directory path settings) =
       (p : Packed) × Packs o.source.left o.source.faults settings.session_limit o.s0 o.s1
       (o.disk.files o.k0) (o.disk.files o.k1) directory path p

@@ -168,14 +168,17 @@ module _ {G : Type 0} (diag_taken : G → Option (List ℕ)) (diag_faults : G �
   TellsEnd (Err e) status d0 d1 =
       Refuses live_shown live_status diag_taken diag_faults e status d0 d1
 
-module _ {S F T G : Type 0} (left : S → Option (List ℕ)) (file_taken : F → Option (List ℕ))
-    (out_taken : T → Option (List ℕ)) (diag_taken : G → Option (List ℕ)) (diag_faults : G → ℕ)
+module _ {S F T G : Type 0} (left : S → Option (List ℕ)) (source_faults : S → ℕ)
+    (file_taken : F → Option (List ℕ)) (file_faults : F → ℕ) (out_taken : T → Option (List ℕ))
+    (out_faults : T → ℕ) (diag_taken : G → Option (List ℕ)) (diag_faults : G → ℕ)
     (number : List ℕ → ℕ) where
   -- the session was recorded into the files while it went on, to its end or not
-  abbrev pub RunsLive : ℕ → ℕ → S → RunFiles F F F → RunFiles F F F → T → T → G → G → Type 0
-  RunsLive most status s0 f0 f1 o0 o1 d0 d1 =
+  abbrev pub RunsLive : Settings → ℕ → S → S → RunFiles F F F → RunFiles F F F → T → T → G → G
+      → Type 0
+  RunsLive settings status s0 s1 f0 f1 o0 o1 d0 d1 =
       (result : Result ℕ LiveError)
-      × Lives left file_taken out_taken number most s0 f0 f1 o0 o1 result
+      × Lives left source_faults file_taken file_faults out_taken out_faults number
+      settings.max_output settings.session_limit s0 s1 f0 f1 o0 o1 result
       × TellsEnd diag_taken diag_faults result status d0 d1
 
 module _ {T G : Type 0} (out_taken : T → Option (List ℕ)) (out_faults : T → ℕ)
@@ -246,8 +249,8 @@ module _ {S B F D T G : Type 0} (o : Objects S B F D T G) (status : ℕ) where
       o.out.faults o.diag.taken o.diag.faults settings status o.s0 o.s1 o.b0 o.b1 o.o0 o.o1 o.d0
       o.d1
   Runs number (Ok (living path settings)) =
-      RunsLive o.source.left o.file.taken o.out.taken o.diag.taken o.diag.faults number
-      settings.max_output status o.s0 o.f0 o.f1 o.o0 o.o1 o.d0 o.d1
+      RunsLive o.source.left o.source.faults o.file.taken o.file.faults o.out.taken o.out.faults
+      o.diag.taken o.diag.faults number settings status o.s0 o.s1 o.f0 o.f1 o.o0 o.o1 o.d0 o.d1
       × (o.b1 ≡ o.b0)
   Runs number (Ok (packing directory path settings)) =
       RunsPack o.source.left o.source.faults o.disk.files o.disk.faults o.out.taken o.out.faults

@@ -28,9 +28,9 @@ pub(crate) fn live<S: Source, F: Sink, T: Sink, G: Sink>(
     out: &mut T,
     diag: &mut G,
 ) -> LiveRun<S, F>
-    ensures { RunsLive S.left F.taken T.taken G.taken G.faults sha256_number
-        settings.now.max_output result.status source files result.files out.old out.new diag.old
-        diag.new }
+    ensures { RunsLive S.left S.faults F.taken F.faults T.taken T.faults G.taken G.faults
+        sha256_number settings.now result.status source result.source files result.files out.old
+        out.new diag.old diag.new }
 {
     let mut lines = LineReader::new(alloc, settings.session_limit, source);
     let LiveEnd { result, files } = record_live(

@@ -341,9 +341,10 @@ fn run_live<S: Source, B: Sink, F: Sink, D: Disk, T: Sink, G: Sink>(
     settings: &Settings,
     streams: Streams<S, B, F, D, T, G>,
 ) -> Ended<S, B, F, D, T, G>
-    ensures runs { RunsLive S.left F.taken T.taken G.taken G.faults sha256_number
-        settings.now.max_output result.status streams.source streams.files result.streams.files
-        streams.out result.streams.out streams.diag result.streams.diag
+    ensures runs { RunsLive S.left S.faults F.taken F.faults T.taken T.faults G.taken G.faults
+        sha256_number settings.now result.status streams.source result.streams.source
+        streams.files result.streams.files streams.out result.streams.out streams.diag
+        result.streams.diag
         × (result.streams.bundle ≡ streams.bundle) }
     ensures disk { result.streams.disk ≡ streams.disk }
 {
