@@ -228,13 +228,21 @@ def fault_lines(page: Path) -> list[str]:
     ]
 
 
+def taking(of: str, commands: Sequence[str]) -> list[str]:
+    """Return the commands that a cell names: each that stands in it, `all`, or `all but` some."""
+    named = re.findall(r"`(\w+)`", of)
+    if of.startswith("all"):
+        return [command for command in commands if command not in named]
+    return named
+
+
 def option_faults(
     page: Path, wanted: Mapping[str, Sequence[str]] = TAKEN, commands: Sequence[str] = COMMANDS
 ) -> Iterator[str]:
     """Yield where the table of options isn't what the front end knows of the program's options."""
     taken: dict[str, list[str]] = {command: [] for command in commands}
     for option, of, *_ in rows(page, "| Option | Of |"):
-        for command in commands if of == "all" else re.findall(r"`(\w+)`", of):
+        for command in taking(of, commands):
             taken.get(command, []).append(option.strip("`"))
     for command in commands:
         if sorted(taken[command]) != sorted(wanted[command]):

@@ -17,7 +17,7 @@ from rezovamy_runs.faults import file_kinds
 
 # What file systems commonly take.
 LONGEST_NAME = 255
-PLACES = {"record": 1, "sample": 2, "upgrade": 1, "salvage": 1}
+PLACES = {"record": 1, "sample": 2, "upgrade": 1, "salvage": 1, "live": 1, "pack": 2}
 OPTIONS = {
     "--group-by": "binary or slot",
     "--message-format": "json or json-pretty",
@@ -39,6 +39,8 @@ TAKEN = {
     "sample": (*DRAWING, "--max-output", *LIMITS),
     "upgrade": LIMITS,
     "salvage": LIMITS,
+    "live": ("--max-output", "--session-limit"),
+    "pack": ("--session-limit",),
 }
 COMMANDS = tuple(TAKEN)
 
@@ -110,6 +112,13 @@ def about_missing(call: Call, _values: Values) -> str | None:
     if command in ("upgrade", "salvage"):
         wanted = f"`{command}` wants the file that it is to write"
         return f"{wanted}: rezovamy {command} BUNDLE < OLDER"
+    if command == "live":
+        return "`live` wants the folder that it is to make: rezovamy live DIR < SESSION"
+    if command == "pack":
+        return (
+            "`pack` wants the folder that `live` made, and the file that it is to write: "
+            "rezovamy pack DIR BUNDLE < /dev/null"
+        )
     if command == "sample":
         return (
             "`sample` wants a number of tests, and the file that it is to write: "

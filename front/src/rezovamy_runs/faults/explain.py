@@ -20,6 +20,7 @@ VALUES = {
     "binary_id": TEXT,
     "test_name": TEXT,
     "file_name": TEXT,
+    "path": TEXT,
     "script_id": TEXT,
     "found": VERSION,
     "supported": VERSION,

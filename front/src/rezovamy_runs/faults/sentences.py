@@ -211,6 +211,38 @@ SENTENCES: Mapping[str, str] = {
         "the store in the bundle doesn't begin as one does, so nothing can be salvaged of it: pack "
         "the directory again"
     ),
+    "ManifestFault": (
+        "the run's folder could not be made, or its manifest could not be written: see that DIR "
+        "isn't there yet, and that its parent is there and may be written"
+    ),
+    "StoreFault": (
+        "the outputs could not be written, and what was accepted before is there: see that the "
+        "disk and `ulimit -f` have room for store.zip in DIR"
+    ),
+    "LogFault": (
+        "an event could not be written, and what was accepted before is there: see that the disk "
+        "and `ulimit -f` have room for run.log.zst in DIR"
+    ),
+    "OutFault": (
+        "an acknowledgement could not be printed, and the recording ended there: see that who "
+        "reads them goes on reading"
+    ),
+    "OpenManifest path={path}": (
+        "{path} is missing: name the folder that `live` made. Where it is missing there too, the "
+        "recording was stopped before it began"
+    ),
+    "DiskFault path={path}": "{path} could not be read: see that it may be read",
+    "OpenArchive path={path}": (
+        "{path} is missing: name the folder that `live` made. Where it is missing there too, the "
+        "recording was stopped before it began"
+    ),
+    "OpenRunLog path={path}": (
+        "{path} is missing: the recording was stopped before its first event"
+    ),
+    "OtherRun": (
+        "the head on standard input has another run-id or started-at than the manifest of the "
+        "folder: give the head of the same run, or nothing"
+    ),
     "MissingMeta file_name={file_name}": (
         "the store was stopped before {file_name} was whole, so no event stands in it: there is "
         "nothing to salvage"
