@@ -11,8 +11,9 @@ import enum
 from collections.abc import Mapping
 from typing import NamedTuple
 
-SECOND = 1_000_000_000
-MILLISECOND = 1_000_000
+from rezovamy_runs.streams.messages import SECOND
+
+MILLISECOND = SECOND // 1000
 
 
 class Program(NamedTuple):
@@ -27,10 +28,10 @@ class Program(NamedTuple):
 class Job:
     """A test to run, as often as its retries say, each time as one process.
 
-    With `log_file`, the program takes `--logfile FILE`, which the runner adds: an attempt passes
-    if it exits with 0 and the file says `ok NAME`. Without it, the summary at the end of standard
-    output must say that one test passed. Where `runs_tests` is false, as for a target without
-    libtest, the exit status alone decides.
+    With `log_file`, the program takes `--logfile FILE`, which the runner adds to its words. An
+    attempt passes then if it exits with 0 and the file says `ok NAME`. Without it, the summary at
+    the end of standard output must say that one test passed. Where `runs_tests` is false, as for a
+    target without libtest, the exit status alone decides.
     """
 
     binary_id: str
@@ -85,6 +86,12 @@ class Captured(NamedTuple):
         """Return how many bytes between the first and the last were dropped."""
         return self.length - len(self.first) - len(self.last)
 
+    def end(self, most: int) -> bytes:
+        """Return the last bytes, at most so many of those that were kept."""
+        if self.left_out or len(self.last) >= most:
+            return self.last[-most:]
+        return self.first[len(self.last) - most :] + self.last
+
 
 class Exit(NamedTuple):
     """How a process ended: with an exit status, or by a signal."""
@@ -109,7 +116,7 @@ class Verdict(enum.StrEnum):
     # A signal ended it that the runner didn't send.
     KILLED = "killed"
     TIMED_OUT = "timed out"
-    # It didn't pass after the run was cancelled, and told no result.
+    # It was ended since the run was cancelled, and neither passed nor failed with status 101.
     CANCELLED = "cancelled"
     # It couldn't be started.
     EXEC_FAILED = "exec failed"
@@ -141,9 +148,9 @@ class Started:
 
 @dataclasses.dataclass(frozen=True)
 class Slow:
-    """An attempt has run for longer than usual. It is told once for an attempt.
+    """An attempt has run for longer than usual.
 
-    `will_terminate` tells that it has run for the timeout, and is ended now.
+    It is told once, and with `will_terminate` when the attempt is ended at the timeout.
     """
 
     job: Job
@@ -198,11 +205,10 @@ class ScriptStarted:
 
 @dataclasses.dataclass(frozen=True)
 class ScriptSlow:
-    """A setup script has run for longer than usual."""
+    """A setup script has run for longer than usual. The timeout isn't for scripts."""
 
     script: Script
     elapsed: int
-    will_terminate: bool
     at: int
 
 

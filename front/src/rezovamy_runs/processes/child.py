@@ -1,0 +1,138 @@
+"""A process that was started, with what it prints and what it is given in time."""
+
+from __future__ import annotations
+
+import contextlib
+import fcntl
+import os
+import signal
+from collections.abc import Callable, Mapping
+
+from rezovamy_runs.processes.jobs import Exit, Program
+from rezovamy_runs.processes.loop import Loop
+
+# How many bytes a pipe holds, if the system lets it, and how many are read at once.
+PIPE_SIZE = 1 << 20
+# Python or the front end ignores these, which a program would inherit.
+RESET = (signal.SIGPIPE, signal.SIGXFSZ, signal.SIGTTOU)
+STANDARD_OUTPUT, STANDARD_ERROR = 1, 2
+
+Consumer = Callable[[bytes], None]
+
+
+def spawn(program: Program, writing: dict[int, int]) -> int:
+    """Start a program in a group of its own, with empty standard input, and return its id.
+
+    `writing` has the descriptors that it gets, by what they are there. It inherits the other
+    streams.
+    """
+    origin = os.open(".", os.O_PATH | os.O_DIRECTORY)
+    try:
+        # There is no way to let the new process change its directory before the program starts.
+        os.chdir(program.directory)
+        return os.posix_spawnp(
+            program.words[0],
+            program.words,
+            program.environment,
+            file_actions=[
+                (os.POSIX_SPAWN_OPEN, 0, os.devnull, os.O_RDONLY, 0),
+                *((os.POSIX_SPAWN_DUP2, held, wanted) for wanted, held in writing.items()),
+            ],
+            setpgroup=0,
+            setsigmask=[],
+            setsigdef=RESET,
+        )
+    finally:
+        os.fchdir(origin)
+        os.close(origin)
+
+
+class Child:
+    """A process that runs in a group of its own.
+
+    `consumers` take what it writes to standard output (1) and standard error (2). It ends once the
+    process and all of its pipes have, or once the pipes were abandoned.
+    """
+
+    def __init__(self, loop: Loop, program: Program, consumers: Mapping[int, Consumer]) -> None:
+        self._loop = loop
+        self._open: dict[int, Consumer] = {}
+        self.exit: Exit | None = None
+        self.ended: int | None = None
+        writing: dict[int, int] = {}
+        try:
+            for stream, consumer in consumers.items():
+                writing[stream] = self._pipe(consumer)
+            self.pid = spawn(program, writing)
+            self._watch_process()
+        except OSError:
+            self.abandon()
+            raise
+        finally:
+            for descriptor in writing.values():
+                os.close(descriptor)
+
+    def _pipe(self, consumer: Consumer) -> int:
+        """Open a pipe for an output, and return its end for the process."""
+        reading, writing = os.pipe2(os.O_CLOEXEC)
+        os.set_blocking(reading, False)
+        # A user may have only so much memory in pipes.
+        with contextlib.suppress(OSError):
+            fcntl.fcntl(reading, fcntl.F_SETPIPE_SZ, PIPE_SIZE)
+        self._open[reading] = consumer
+        self._loop.add(reading, lambda: self._read(reading))
+        return writing
+
+    def _read(self, descriptor: int) -> int:
+        """Take what can be read of an output, and return how much it was."""
+        try:
+            data = os.read(descriptor, PIPE_SIZE)
+        except BlockingIOError:
+            return 0
+        if data:
+            self._open[descriptor](data)
+        else:
+            self._close(descriptor)
+        return len(data)
+
+    def _close(self, descriptor: int) -> None:
+        """Read no more of an output."""
+        del self._open[descriptor]
+        self._loop.close(descriptor)
+
+    def _watch_process(self) -> None:
+        """Wait for the process to end."""
+        descriptor = os.pidfd_open(self.pid)
+
+        def end() -> None:
+            code = os.waitstatus_to_exitcode(os.waitpid(self.pid, 0)[1])
+            self.exit = Exit(status=code) if code >= 0 else Exit(signal=-code)
+            self.ended = self._loop.now()
+            self._loop.close(descriptor)
+
+        self._loop.add(descriptor, end)
+
+    @property
+    def is_open(self) -> bool:
+        """Tell whether something may write to an output yet."""
+        return bool(self._open)
+
+    def abandon(self) -> bool:
+        """Read what the pipes hold, close them, and tell whether one was still open.
+
+        What they held when the process ended is no more than their size.
+        """
+        for descriptor in list(self._open):
+            left = PIPE_SIZE
+            while left > 0 and (got := self._read(descriptor)):
+                left -= got
+        leaked = self.is_open
+        for descriptor in list(self._open):
+            self._close(descriptor)
+        return leaked
+
+    def send(self, number: int) -> None:
+        """Send a signal to the processes of the group, as long as the first one runs."""
+        with contextlib.suppress(ProcessLookupError, PermissionError):
+            if self.exit is None:
+                os.killpg(self.pid, number)
