@@ -51,15 +51,9 @@ class Attempt:
         if limits.timeout is not None:
             self._steps[Step.TERMINATE] = self.started + limits.timeout
 
-    @property
-    def exit(self) -> Exit | None:
-        """Return how the process ended, None while it runs."""
-        return self._child.exit
-
-    @property
-    def is_over(self) -> bool:
-        """Tell whether the process has ended, and nothing more is read of it."""
-        return self.exit is not None and not self._child.is_open
+    def outcome(self) -> Exit | None:
+        """Return how the process ended, None as long as it runs or its outputs are read."""
+        return None if self._child.is_open else self._child.exit
 
     def elapsed(self, now: int = 0) -> int:
         """Return how long the process has run, or ran if it has ended, without pauses."""
@@ -71,7 +65,7 @@ class Attempt:
 
     def take_steps(self, now: int) -> list[Step]:
         """Do what is due, and return what was done."""
-        if self.exit is not None and not self._has_exited:
+        if self._child.exit and not self._has_exited:
             self._has_exited = True
             self._steps = {Step.ABANDON_OUTPUTS: now + self._settings.leak_wait}
         due = [step for step, instant in self._steps.items() if instant <= now]
@@ -101,7 +95,7 @@ class Attempt:
 
     def cancel(self, number: int, now: int) -> None:
         """Ask the process to end by a signal, since the run does."""
-        if self.exit is None:
+        if not self._child.exit:
             self.is_cancelled = True
             self._end(number, now + self._settings.cancel_grace)
 
@@ -116,6 +110,6 @@ class Attempt:
     def go_on(self, pause: int) -> None:
         """Let the process go on after a pause of so long."""
         self._steps = {step: instant + pause for step, instant in self._steps.items()}
-        if self.exit is None:
+        if not self._child.exit:
             self._paused += pause
         self._child.send(signal.SIGCONT)

@@ -64,13 +64,13 @@ class Child:
             for stream, consumer in consumers.items():
                 writing[stream] = self._pipe(consumer)
             self.pid = spawn(program, writing)
-            self._watch_process()
         except OSError:
             self.abandon()
             raise
         finally:
             for descriptor in writing.values():
                 os.close(descriptor)
+        self._watch_process()
 
     def _pipe(self, consumer: Consumer) -> int:
         """Open a pipe for an output, and return its end for the process."""
@@ -133,6 +133,11 @@ class Child:
 
     def send(self, number: int) -> None:
         """Send a signal to the processes of the group, as long as the first one runs."""
-        with contextlib.suppress(ProcessLookupError, PermissionError):
-            if self.exit is None:
+        if self.exit:
+            return
+        with contextlib.suppress(PermissionError):
+            try:
                 os.killpg(self.pid, number)
+            except ProcessLookupError:
+                # It went to another group.
+                os.kill(self.pid, number)

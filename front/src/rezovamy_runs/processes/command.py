@@ -27,5 +27,5 @@ def run_command(loop: Loop, program: Program, take: Consumer) -> CommandEnd:
     supervisor.start(program, {STANDARD_OUTPUT: take})
     while True:
         for notice in supervisor.turn():
-            if isinstance(notice, Over) and notice.attempt.exit:
-                return CommandEnd(notice.attempt.exit, supervisor.cancelled)
+            if isinstance(notice, Over):
+                return CommandEnd(notice.outcome, supervisor.cancelled)

@@ -86,6 +86,8 @@ def _work(work: Callable[[], int], first: int, mask: set[int | signal.Signals]) 
         signal.signal(signal.SIGTTOU, signal.SIG_IGN)
         signal.pthread_sigmask(signal.SIG_SETMASK, mask)
         status = work()
+    except SystemExit as ended:
+        status = ended.code if isinstance(ended.code, int) else int(ended.code is not None)
     except BaseException:
         traceback.print_exc()
         kill_descendants()

@@ -6,6 +6,7 @@ import collections
 import dataclasses
 import functools
 import heapq
+import resource
 from collections.abc import Iterable, Iterator, Sequence
 
 from rezovamy_runs.processes.attempt import Attempt, Limits
@@ -31,6 +32,9 @@ from rezovamy_runs.processes.supervisor import CalledSlow, Notice, Over, Supervi
 from rezovamy_runs.processes.tries import Try, not_started
 from rezovamy_runs.processes.verdicts import by_status, by_test
 
+# Two pipes, the process and the log file of a test, and what else may be open.
+DESCRIPTORS_OF_TEST, OTHER_DESCRIPTORS = 4, 64
+
 
 @dataclasses.dataclass(frozen=True)
 class Place:
@@ -39,6 +43,12 @@ class Place:
     job: Job
     attempt: int
     slot: int
+
+
+def most_slots() -> int:
+    """Return how many tests may run at once, by the descriptors that they need."""
+    most, _ = resource.getrlimit(resource.RLIMIT_NOFILE)
+    return max(1, (most - OTHER_DESCRIPTORS) // DESCRIPTORS_OF_TEST)
 
 
 class Run:
@@ -58,7 +68,7 @@ class Run:
     ) -> None:
         self._loop, self._settings, self._scripts = loop, settings, scripts
         self._waiting = collections.deque(jobs)
-        self._free_slots = list(range(settings.slots))
+        self._free_slots = list(range(min(settings.slots, most_slots())))
         self._supervisor = Supervisor(loop, settings)
         self._tries: dict[Attempt, tuple[Place, Try]] = {}
 
@@ -93,8 +103,8 @@ class Run:
                 match notice:
                     case CalledSlow(attempt, _, at):
                         yield ScriptSlow(script, attempt.elapsed(at), at)
-                    case Over(attempt):
-                        ending = tried.ending(attempt)
+                    case Over(attempt, outcome):
+                        ending = tried.ending(attempt, outcome)
                     case _:
                         yield notice
         yield ScriptEnded(script, index, total, ending, self._loop.now())
@@ -135,9 +145,9 @@ class Run:
                 elapsed = attempt.elapsed(at)
                 number, total = place.attempt, self._total_attempts
                 yield Slow(place.job, number, total, elapsed, will_terminate, at)
-            case Over(attempt):
+            case Over(attempt, outcome):
                 place, tried = self._tries.pop(attempt)
-                yield from self._end(place, tried.ending(attempt))
+                yield from self._end(place, tried.ending(attempt, outcome))
             case _:
                 yield notice
 

@@ -13,6 +13,7 @@ from rezovamy_runs.processes.jobs import (
     Cancelled,
     CancelReason,
     Continued,
+    Exit,
     Paused,
     Program,
     Settings,
@@ -39,6 +40,7 @@ class Over:
     """An attempt is over."""
 
     attempt: Attempt
+    outcome: Exit
     at: int
 
 
@@ -88,9 +90,10 @@ class Supervisor:
             for step in attempt.take_steps(now):
                 if step in (Step.CALL_SLOW, Step.TERMINATE):
                     yield CalledSlow(attempt, step is Step.TERMINATE, now)
-            if attempt.is_over:
+            outcome = attempt.outcome()
+            if outcome:
                 self.running.remove(attempt)
-                yield Over(attempt, now)
+                yield Over(attempt, outcome, now)
 
     def _take(self, signals: list[int]) -> Iterator[Notice]:
         """Do what the signals ask for."""

@@ -43,9 +43,8 @@ class Try:
         """Return what the log file says, if there is one."""
         return self._log.take() if self._log else b""
 
-    def ending(self, attempt: Attempt) -> Ending:
-        """Return how the attempt ended that is over."""
-        ended = attempt.exit or Exit()
+    def ending(self, attempt: Attempt, ended: Exit) -> Ending:
+        """Return how the attempt ended."""
         stdout = self._stdout.captured()
         stderr = self._stderr.captured(LOG_FILE_WARNING if self._log else b"")
         verdict = self._judge(ended, stdout, self._take_log())
