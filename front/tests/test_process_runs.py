@@ -5,6 +5,7 @@ from __future__ import annotations
 import os
 import pathlib
 import resource
+import signal
 from collections.abc import Iterator
 
 import pytest
@@ -244,15 +245,23 @@ def test_time_goes_by_while_nothing_happens() -> None:
 
 
 def test_what_is_given_up_is_not_left_running(tmp_path: pathlib.Path) -> None:
-    """The iteration of a run may end before the run does."""
+    """The iteration may end before the run does, and another run follow in the same loop."""
     job = shell("echo $$ > id.new; mv id.new id; sleep 60", tmp_path)
     with Loop() as loop:
         events = iter(Run(loop, [job], Settings(1)))
         while not (tmp_path / "id").exists():
             next(events)
         events.close()  # type: ignore[attr-defined]
+        assert [e for e in Run(loop, [shell(":")], Settings(1)) if isinstance(e, Ended)]
     with pytest.raises(ProcessLookupError):
         os.kill(int((tmp_path / "id").read_text()), 0)
+
+
+def test_a_signal_that_nobody_asked_for_is_sent_again() -> None:
+    """It came after the last turn of the loop."""
+    with pytest.raises(KeyboardInterrupt):
+        with Loop():
+            signal.raise_signal(signal.SIGINT)
 
 
 def test_no_descriptor_is_left_open() -> None:

@@ -22,14 +22,14 @@ class Step(enum.Enum):
 
 
 class Limits(NamedTuple):
-    """After how long an attempt is called slow, and when it is ended; None is never."""
+    """After which times an attempt is called slow, and is ended; None means never."""
 
     slow_after: int | None = None
     timeout: int | None = None
 
 
 class Attempt:
-    """A process, and what is to be done to it at which instant."""
+    """A process, and the instants at which something must be done to it."""
 
     def __init__(
         self,
@@ -52,18 +52,18 @@ class Attempt:
             self._steps[Step.TERMINATE] = self.started + limits.timeout
 
     def outcome(self) -> Exit | None:
-        """Return how the process ended, None as long as it runs or its outputs are read."""
+        """Return how the process ended, or None while it runs or its outputs are read."""
         return None if self._child.is_open else self._child.exit
 
     def elapsed(self, now: int = 0) -> int:
-        """Return how long the process has run, or ran if it has ended, without pauses."""
+        """Return how long the process has run by now or until it ended, without pauses."""
         return (self._child.ended or now) - self.started - self._paused
 
     def next_step(self) -> int | None:
-        """Return the instant at which something is to be done next."""
+        """Return the instant of the next step, or None if there is none."""
         return min(self._steps.values(), default=None)
 
-    def take_steps(self, now: int) -> list[Step]:
+    def do_due_steps(self, now: int) -> list[Step]:
         """Do what is due, and return what was done."""
         if self._child.exit and not self._has_exited:
             self._has_exited = True
@@ -71,11 +71,11 @@ class Attempt:
         due = [step for step, instant in self._steps.items() if instant <= now]
         for step in due:
             del self._steps[step]
-            self._take(step, now)
+            self._do(step, now)
         return due
 
-    def _take(self, step: Step, now: int) -> None:
-        """Do what is due at an instant."""
+    def _do(self, step: Step, now: int) -> None:
+        """Do one step."""
         match step:
             case Step.CALL_SLOW:
                 self.is_slow = True
@@ -88,13 +88,13 @@ class Attempt:
                 self.leaked = self._child.abandon()
 
     def _end(self, number: int, kill_at: int) -> None:
-        """Ask the process to end, and kill it if it hasn't at an instant."""
+        """Ask the process to end, and kill it at an instant if it still runs."""
         self._child.send(number)
         self._steps.pop(Step.TERMINATE, None)
         self._steps[Step.KILL] = min(kill_at, self._steps.get(Step.KILL, kill_at))
 
     def cancel(self, number: int, now: int) -> None:
-        """Ask the process to end by a signal, since the run does."""
+        """Ask the process to end by a signal, because the run is cancelled."""
         if not self._child.exit:
             self.is_cancelled = True
             self._end(number, now + self._settings.cancel_grace)
@@ -103,12 +103,16 @@ class Attempt:
         """Kill the process."""
         self._child.send(signal.SIGKILL)
 
+    def forget(self) -> None:
+        """Wait no more for a process that somebody else has killed."""
+        self._child.forget()
+
     def stop(self) -> None:
         """Stop the process for a pause."""
         self._child.send(signal.SIGSTOP)
 
     def go_on(self, pause: int) -> None:
-        """Let the process go on after a pause of so long."""
+        """Continue the process after a pause of this length."""
         self._steps = {step: instant + pause for step, instant in self._steps.items()}
         if not self._child.exit:
             self._paused += pause

@@ -1,4 +1,4 @@
-"""A process that was started, with what it prints and what it is given in time."""
+"""Starts a process, and reads what it prints."""
 
 from __future__ import annotations
 
@@ -13,8 +13,10 @@ from rezovamy_runs.processes.loop import Loop
 
 # How many bytes a pipe holds, if the system lets it, and how many are read at once.
 PIPE_SIZE = 1 << 20
-# Python or the front end ignores these, which a program would inherit.
-RESET = (signal.SIGPIPE, signal.SIGXFSZ, signal.SIGTTOU)
+# Signals that Python ignores, which a program would inherit. The front end ignores another one,
+# which a program that writes to its terminal needs to ignore too.
+RESET = (signal.SIGPIPE, signal.SIGXFSZ)
+RESET_WITH_OUTPUTS = (*RESET, signal.SIGTTOU)
 STANDARD_OUTPUT, STANDARD_ERROR = 1, 2
 
 Consumer = Callable[[bytes], None]
@@ -23,12 +25,11 @@ Consumer = Callable[[bytes], None]
 def spawn(program: Program, writing: dict[int, int]) -> int:
     """Start a program in a group of its own, with empty standard input, and return its id.
 
-    `writing` has the descriptors that it gets, by what they are there. It inherits the other
-    streams.
+    `writing` maps its standard streams to descriptors of this process. It inherits the others.
     """
     origin = os.open(".", os.O_PATH | os.O_DIRECTORY)
     try:
-        # There is no way to let the new process change its directory before the program starts.
+        # Python 3.11 can't tell the new process its directory in another way.
         os.chdir(program.directory)
         return os.posix_spawnp(
             program.words[0],
@@ -40,7 +41,7 @@ def spawn(program: Program, writing: dict[int, int]) -> int:
             ],
             setpgroup=0,
             setsigmask=[],
-            setsigdef=RESET,
+            setsigdef=RESET_WITH_OUTPUTS if STANDARD_ERROR in writing else RESET,
         )
     finally:
         os.fchdir(origin)
@@ -50,8 +51,8 @@ def spawn(program: Program, writing: dict[int, int]) -> int:
 class Child:
     """A process that runs in a group of its own.
 
-    `consumers` take what it writes to standard output (1) and standard error (2). It ends once the
-    process and all of its pipes have, or once the pipes were abandoned.
+    `consumers` are called with what it writes to standard output (1) and standard error (2).
+    `exit` is None while it runs, and `ended` is the instant at which it ended.
     """
 
     def __init__(self, loop: Loop, program: Program, consumers: Mapping[int, Consumer]) -> None:
@@ -84,7 +85,7 @@ class Child:
         return writing
 
     def _read(self, descriptor: int) -> int:
-        """Take what can be read of an output, and return how much it was."""
+        """Read what there is of an output, and return how many bytes it was."""
         try:
             data = os.read(descriptor, PIPE_SIZE)
         except BlockingIOError:
@@ -102,34 +103,43 @@ class Child:
 
     def _watch_process(self) -> None:
         """Wait for the process to end."""
-        descriptor = os.pidfd_open(self.pid)
+        self._descriptor = os.pidfd_open(self.pid)
+        self._loop.add(self._descriptor, self._end)
 
-        def end() -> None:
-            code = os.waitstatus_to_exitcode(os.waitpid(self.pid, 0)[1])
-            self.exit = Exit(status=code) if code >= 0 else Exit(signal=-code)
-            self.ended = self._loop.now()
-            self._loop.close(descriptor)
-
-        self._loop.add(descriptor, end)
+    def _end(self) -> None:
+        """Keep how the process ended."""
+        code = os.waitstatus_to_exitcode(os.waitpid(self.pid, 0)[1])
+        self.exit = Exit(status=code) if code >= 0 else Exit(signal=-code)
+        self.ended = self._loop.now()
+        self._loop.close(self._descriptor)
 
     @property
     def is_open(self) -> bool:
-        """Tell whether something may write to an output yet."""
+        """Tell whether an output is still read."""
         return bool(self._open)
 
     def abandon(self) -> bool:
-        """Read what the pipes hold, close them, and tell whether one was still open.
+        """Read what is in the pipes, close them, and tell whether another process has one open.
 
-        What they held when the process ended is no more than their size.
+        A pipe never holds more than its size, so all that came before the end is read.
         """
         for descriptor in list(self._open):
             left = PIPE_SIZE
             while left > 0 and (got := self._read(descriptor)):
                 left -= got
         leaked = self.is_open
+        self._close_outputs()
+        return leaked
+
+    def _close_outputs(self) -> None:
         for descriptor in list(self._open):
             self._close(descriptor)
-        return leaked
+
+    def forget(self) -> None:
+        """Wait no more for a process that somebody else has killed, nor for its outputs."""
+        self._close_outputs()
+        if not self.exit:
+            self._loop.close(self._descriptor)
 
     def send(self, number: int) -> None:
         """Send a signal to the processes of the group, as long as the first one runs."""

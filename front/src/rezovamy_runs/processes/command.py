@@ -17,14 +17,14 @@ class CommandEnd(NamedTuple):
     cancelled: CancelReason | None
 
 
-def run_command(loop: Loop, program: Program, take: Consumer) -> CommandEnd:
-    """Run a program until it ends, and let `take` have what it prints to standard output.
+def run_command(loop: Loop, program: Program, consumer: Consumer) -> CommandEnd:
+    """Run a program until it ends, and call `consumer` with what it prints to standard output.
 
-    It inherits standard error. Signals and pauses are for it as they are for tests. What it leaves
-    running, as a server of a compiler, goes on. Raises OSError if it can't be started.
+    It inherits standard error. Signals and pauses reach it as they reach tests. A process that it
+    leaves running, as a server of a compiler, goes on. Raises OSError if it can't be started.
     """
     supervisor = Supervisor(loop, Settings(slots=1))
-    supervisor.start(program, {STANDARD_OUTPUT: take})
+    supervisor.start(program, {STANDARD_OUTPUT: consumer})
     while True:
         for notice in supervisor.turn():
             if isinstance(notice, Over):

@@ -1,7 +1,7 @@
-"""Finds the processes that come of this one, and kills them.
+"""Finds the descendants of this process, and kills them.
 
-A process that adopts orphans becomes the parent of every descendant whose parent has died, also of
-those that made a session of their own. So its descendants are its children, or theirs.
+A process that adopts orphans becomes the parent of each descendant whose parent has died, whatever
+its session is. So killing all children until there are none kills all descendants.
 """
 
 from __future__ import annotations
@@ -16,7 +16,7 @@ from collections.abc import Collection
 
 PR_SET_PDEATHSIG = 1
 PR_SET_CHILD_SUBREAPER = 36
-# How long a process has to go after SIGKILL. One that waits for a broken disk may never do.
+# How many seconds a process has to die after SIGKILL. One that waits for a broken disk may never.
 LONGEST_DEATH = 5.0
 PAUSE = 0.001
 
@@ -50,7 +50,7 @@ def children() -> set[int]:
 
 
 def _has_ended(child: int) -> bool:
-    """Tell whether a child has ended, and let go of it then."""
+    """Tell whether a child has ended, and reap it then."""
     try:
         return os.waitpid(child, os.WNOHANG)[0] == child
     except ChildProcessError:
@@ -65,9 +65,9 @@ def _kill(child: int) -> None:
 
 
 def kill_descendants(spared: Collection[int] = ()) -> int:
-    """Kill all descendants except some children, and return how many of them became children.
+    """Kill all descendants except some children, and return how many processes that were.
 
-    What doesn't die within some seconds, or belongs to another user, is left.
+    A process of another user, or one that doesn't die within some seconds, is left.
     """
     killed: set[int] = set()
     deadline = time.monotonic() + LONGEST_DEATH

@@ -50,7 +50,7 @@ def guarded(work: Callable[[], int]) -> int:
     worker = os.fork()
     if worker == 0:
         _work(work, first, mask)
-    # Whichever of the two comes first: a signal for the worker's group finds it.
+    # The worker does the same: its group is there before either goes on.
     with contextlib.suppress(OSError):
         os.setpgid(worker, worker)
     status = _wait_for(worker, caught)

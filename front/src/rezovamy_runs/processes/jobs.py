@@ -1,4 +1,4 @@
-"""What the runner of processes is given, and what it tells.
+"""The input and the output of the runner of processes: jobs, settings and events.
 
 Instants are nanoseconds since 1970-01-01 UTC, by a clock that never goes back. Lengths are
 nanoseconds too; those of attempts are without the pauses of the run.
@@ -28,10 +28,10 @@ class Program(NamedTuple):
 class Job:
     """A test to run, as often as its retries say, each time as one process.
 
-    With `log_file`, the program takes `--logfile FILE`, which the runner adds to its words. An
-    attempt passes then if it exits with 0 and the file says `ok NAME`. Without it, the summary at
-    the end of standard output must say that one test passed. Where `runs_tests` is false, as for a
-    target without libtest, the exit status alone decides.
+    With `log_file`, the runner adds `--logfile FILE` to the words. An attempt passes then if it
+    exits with 0 and the file says `ok NAME`. Without it, the summary at the end of standard output
+    must say that one test passed. If `runs_tests` is false, as for a target without libtest, only
+    the exit status counts.
     """
 
     binary_id: str
@@ -53,10 +53,10 @@ class Script:
 class Settings:
     """How the tests of a run are run.
 
-    `timeout` and `slow_after` are None where no test is ended, or called slow. `grace` is the time
-    between the request to end and the kill, after a timeout; `cancel_grace` is that of a cancelled
-    run. `leak_wait` is how long the outputs of a process may stay open once it has ended. `tick`
-    is how long nothing is told before a `Tick` is.
+    A test is ended after `timeout` and called slow after `slow_after`, never if they are None.
+    Between SIGTERM and SIGKILL there is `grace` after a timeout, and `cancel_grace` in a cancelled
+    run. The outputs of a process may stay open for `leak_wait` after its end. Nothing happens for
+    `tick` before there is a `Tick`.
     """
 
     slots: int
@@ -74,7 +74,7 @@ class Settings:
 class Captured(NamedTuple):
     """What was kept of an output: its first bytes, its last bytes, and its whole length.
 
-    The two never overlap. The last bytes are empty where the first ones are all of it.
+    The two never overlap. There are no last bytes if the first ones are the whole output.
     """
 
     first: bytes = b""
@@ -87,7 +87,7 @@ class Captured(NamedTuple):
         return self.length - len(self.first) - len(self.last)
 
     def end(self, most: int) -> bytes:
-        """Return the last bytes, at most so many of those that were kept."""
+        """Return at most this many of the last bytes, as far as they were kept."""
         if self.left_out or len(self.last) >= most:
             return self.last[-most:]
         return self.first[len(self.last) - most :] + self.last
@@ -109,14 +109,14 @@ class Verdict(enum.StrEnum):
     """How an attempt or a setup script ended."""
 
     PASSED = "passed"
-    # The test said so itself. Without libtest, or for a script, the exit status isn't 0.
+    # The test said so itself; for a script, or without libtest, the exit status isn't 0.
     FAILED = "failed"
-    # The process exited, with whatever status, before the test told its result.
+    # The process exited, with any status, before the test told its result.
     NO_RESULT = "no result"
     # A signal ended it that the runner didn't send.
     KILLED = "killed"
     TIMED_OUT = "timed out"
-    # It was ended since the run was cancelled, and neither passed nor failed with status 101.
+    # It was asked to end because the run was cancelled, and neither passed nor failed with 101.
     CANCELLED = "cancelled"
     # It couldn't be started.
     EXEC_FAILED = "exec failed"
@@ -150,7 +150,7 @@ class Started:
 class Slow:
     """An attempt has run for longer than usual.
 
-    It is told once, and with `will_terminate` when the attempt is ended at the timeout.
+    There is another one, with `will_terminate`, when it reaches the timeout and is ended.
     """
 
     job: Job
@@ -165,8 +165,8 @@ class Slow:
 class Ending:
     """How a process ended, with what it printed.
 
-    `exit` is None where the process couldn't be started; `error` says why then. `leaked` tells
-    that another process held an output open for longer than the settings allow.
+    If the process couldn't be started, `exit` is None, and `error` says why. `leaked` means that
+    another process held an output open for longer than the settings allow.
     """
 
     verdict: Verdict
@@ -182,7 +182,7 @@ class Ending:
 
 @dataclasses.dataclass(frozen=True)
 class Ended:
-    """An attempt ended. `next_attempt` is None where the test isn't tried again."""
+    """An attempt ended. `next_attempt` is None if the test isn't tried again."""
 
     job: Job
     attempt: int
@@ -195,7 +195,7 @@ class Ended:
 
 @dataclasses.dataclass(frozen=True)
 class ScriptStarted:
-    """A setup script started: the one with this index, from 0, of so many."""
+    """A setup script started. Its index is counted from 0; `total` is how many there are."""
 
     script: Script
     index: int
@@ -205,7 +205,7 @@ class ScriptStarted:
 
 @dataclasses.dataclass(frozen=True)
 class ScriptSlow:
-    """A setup script has run for longer than usual. The timeout isn't for scripts."""
+    """A setup script has run for longer than usual. No timeout ends it."""
 
     script: Script
     elapsed: int
@@ -254,7 +254,7 @@ class Tick:
 
 @dataclasses.dataclass(frozen=True)
 class Finished:
-    """The run ended. So many processes that tests had left were still there, and were killed."""
+    """The run ended. `killed` counts the processes that tests had left, which were killed."""
 
     killed: int
     at: int

@@ -16,8 +16,8 @@ class Log:
         """Return the path by which a process of the same user opens the file."""
         return f"/proc/{os.getpid()}/fd/{self._descriptor}"
 
-    def take(self) -> bytes:
-        """Return what is in the file, and let go of it."""
+    def read_and_close(self) -> bytes:
+        """Return what is in the file, and close it."""
         content = os.pread(self._descriptor, os.fstat(self._descriptor).st_size, 0)
         os.close(self._descriptor)
         return content

@@ -24,8 +24,8 @@ def _note(_number: int, _frame: FrameType | None) -> None:
 class Loop:
     """Calls what waits for a descriptor once it can be read.
 
-    While it is entered, the signals that ask the front end to end or to pause are noted, and
-    `turn` returns them.
+    Between enter and exit, the signals that ask the front end to end or to pause are noted, and
+    `turn` returns them. One that `turn` hasn't returned at the exit is sent again after it.
     """
 
     def __init__(self) -> None:
@@ -39,18 +39,31 @@ class Loop:
         self._epoll = self._undo.enter_context(select.epoll())
         reading, writing = os.pipe2(os.O_NONBLOCK | os.O_CLOEXEC)
         self._undo.callback(os.close, writing)
+        self._undo.callback(self._close_all)
         before = signal.set_wakeup_fd(writing, warn_on_full_buffer=False)
         self._undo.callback(signal.set_wakeup_fd, before)
         for number in caught_signals():
             self._undo.callback(signal.signal, number, signal.signal(number, _note))
-        self.add(reading, lambda: self._signals.extend(os.read(reading, MOST_SIGNALS)))
+        self._noted = reading
+        self.add(reading, self._read_signals)
         return self
 
+    def _read_signals(self) -> None:
+        """Read the signals that were noted."""
+        with contextlib.suppress(BlockingIOError):
+            self._signals.extend(os.read(self._noted, MOST_SIGNALS))
+
     def __exit__(self, *_: object) -> None:
-        """Forget all descriptors, and leave signals to what took them before."""
+        """Close all descriptors, and restore the handlers of signals."""
+        self._read_signals()
+        self._undo.close()
+        for number in self._signals:
+            signal.raise_signal(number)
+
+    def _close_all(self) -> None:
+        """Close the descriptors that are still waited for."""
         for descriptor in list(self._waiting):
             self.close(descriptor)
-        self._undo.close()
 
     def add(self, descriptor: int, call: Callable[[], object]) -> None:
         """Call this whenever the descriptor can be read, or is at its end."""
@@ -58,9 +71,10 @@ class Loop:
         self._waiting[descriptor] = call
 
     def close(self, descriptor: int) -> None:
-        """Forget a descriptor, and close it.
+        """Close a descriptor, and wait for it no more.
 
-        A child that is being started may hold a copy of it, which the system would go on to watch.
+        It must leave epoll first: as long as another process has a copy of it, closing it here
+        doesn't remove it.
         """
         self._epoll.unregister(descriptor)
         del self._waiting[descriptor]

@@ -4,12 +4,12 @@ from __future__ import annotations
 
 from rezovamy_runs.processes.jobs import Captured
 
-# How many of the last bytes are kept where an output is longer than its limit.
+# How many of the last bytes are kept if an output is longer than its limit.
 LAST = 4096
 
 
 class Capture:
-    """Holds no more of an output than a limit and some last bytes."""
+    """Keeps the first bytes of an output, up to a limit, and some last bytes."""
 
     def __init__(self, limit: int) -> None:
         self._limit = limit
@@ -18,7 +18,7 @@ class Capture:
         self._length = 0
 
     def feed(self, data: bytes) -> None:
-        """Take what comes next."""
+        """Add the next bytes."""
         self._length += len(data)
         room = self._limit - len(self._first)
         if room >= len(data):

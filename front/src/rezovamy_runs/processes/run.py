@@ -1,4 +1,4 @@
-"""Runs tests, each as a process, and tells what happens meanwhile."""
+"""Runs tests, each as a process, and yields what happens."""
 
 from __future__ import annotations
 
@@ -38,7 +38,7 @@ DESCRIPTORS_OF_TEST, OTHER_DESCRIPTORS = 4, 64
 
 @dataclasses.dataclass(frozen=True)
 class Place:
-    """Which attempt of which test, and the slot it has."""
+    """An attempt of a test, and its slot."""
 
     job: Job
     attempt: int
@@ -54,9 +54,8 @@ def most_slots() -> int:
 class Run:
     """A run of tests, as the events that happen.
 
-    The loop is entered by the caller, and goes on while the events are iterated: whoever takes
-    long over one of them keeps slots empty. If the iteration is given up, nothing is left running
-    either.
+    The caller enters the loop. The run goes on only while its events are iterated, so handle each
+    of them fast. If you close the iterator before the end, what runs is killed.
     """
 
     def __init__(
@@ -73,7 +72,7 @@ class Run:
         self._tries: dict[Attempt, tuple[Place, Try]] = {}
 
     def __iter__(self) -> Iterator[Event]:
-        """Run the setup scripts one after the other, then the tests, and tell what happens."""
+        """Run the setup scripts one after the other, then the tests, and yield what happens."""
         others = children()
         try:
             for index, script in enumerate(self._scripts):
@@ -86,6 +85,7 @@ class Run:
                 yield from self._start_waiting()
         finally:
             killed = kill_descendants(others)
+            self._supervisor.forget_all()
         yield Finished(killed, self._loop.now())
 
     def _run_script(self, script: Script, index: int) -> Iterator[Event]:
@@ -138,7 +138,7 @@ class Run:
             yield from self._end(place, failed)
 
     def _tell(self, notice: Notice) -> Iterator[Event]:
-        """Tell what happened, of an attempt by its test."""
+        """Yield the events of what happened to an attempt, or to the run."""
         match notice:
             case CalledSlow(attempt, will_terminate, at):
                 place, _ = self._tries[attempt]
@@ -152,7 +152,7 @@ class Run:
                 yield notice
 
     def _end(self, place: Place, ending: Ending) -> Iterator[Event]:
-        """Tell how an attempt ended, and try the test again if it failed, in the same slot."""
+        """Yield the end of an attempt, and retry the test in the same slot if it failed."""
         failed = ending.verdict is not Verdict.PASSED
         is_last = place.attempt == self._total_attempts or self._supervisor.cancelled
         again = place.attempt + 1 if failed and not is_last else None

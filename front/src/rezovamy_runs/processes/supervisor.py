@@ -1,4 +1,4 @@
-"""Runs some attempts at once, and takes the signals that are for the whole run."""
+"""Watches attempts that run at once, and handles the signals for the whole run."""
 
 from __future__ import annotations
 
@@ -28,7 +28,7 @@ ENDING = (signal.SIGINT, signal.SIGTERM, signal.SIGHUP)
 
 @dataclasses.dataclass(frozen=True)
 class CalledSlow:
-    """An attempt is slow, or is ended since it has run for too long."""
+    """An attempt is slow, or is ended because it reached the timeout."""
 
     attempt: Attempt
     will_terminate: bool
@@ -66,12 +66,18 @@ class Supervisor:
         return attempt
 
     def cancel(self, reason: CancelReason) -> Cancelled:
-        """Cancel the run, but let what runs end by itself."""
+        """Cancel the run, without ending what runs."""
         self.cancelled = reason
         return Cancelled(reason, self._loop.now())
 
+    def forget_all(self) -> None:
+        """Wait no more for what runs, which somebody else has killed."""
+        for attempt in self.running:
+            attempt.forget()
+        self.running.clear()
+
     def turn(self) -> Iterator[Notice]:
-        """Wait until something happens or is due, and tell it."""
+        """Wait until something happens or is due, and yield what it was."""
         for notice in self._turn():
             self._last_notice = notice.at
             yield notice
@@ -84,10 +90,10 @@ class Supervisor:
         steps = (attempt.next_step() for attempt in self.running)
         due = [instant for instant in steps if instant is not None]
         signals = self._loop.turn(min([*due, self._last_notice + self._settings.tick]))
-        yield from self._take(signals)
+        yield from self._handle(signals)
         now = self._loop.now()
         for attempt in list(self.running):
-            for step in attempt.take_steps(now):
+            for step in attempt.do_due_steps(now):
                 if step in (Step.CALL_SLOW, Step.TERMINATE):
                     yield CalledSlow(attempt, step is Step.TERMINATE, now)
             outcome = attempt.outcome()
@@ -95,8 +101,8 @@ class Supervisor:
                 self.running.remove(attempt)
                 yield Over(attempt, outcome, now)
 
-    def _take(self, signals: list[int]) -> Iterator[Notice]:
-        """Do what the signals ask for."""
+    def _handle(self, signals: list[int]) -> Iterator[Notice]:
+        """End or pause the run as the signals ask."""
         for place, number in enumerate(signals):
             if number in ENDING:
                 yield self._end(number)
@@ -104,12 +110,12 @@ class Supervisor:
                 yield from self._pause()
 
     def _end(self, number: int) -> Cancelled:
-        """Pass on the first signal that asks the run to end; kill what runs at a further one."""
+        """Pass on the first signal that asks the run to end, and kill what runs at a second."""
         now = self._loop.now()
         if self.cancelled in NOT_BY_SIGNAL:
             is_interrupt = number == signal.SIGINT
             self.cancelled = CancelReason.INTERRUPT if is_interrupt else CancelReason.SIGNAL
-            # Tests needn't know a hang-up.
+            # Tests often don't handle a hang-up, which would leave no trace of why they ended.
             passed_on = signal.SIGTERM if number == signal.SIGHUP else number
             for attempt in self.running:
                 attempt.cancel(passed_on, now)
@@ -120,7 +126,7 @@ class Supervisor:
         return Cancelled(self.cancelled, now)
 
     def _pause(self) -> Iterator[Notice]:
-        """Stop all processes and this one, and go on with them when this one goes on."""
+        """Stop all processes and this one, and continue them once this one is continued."""
         begin = self._loop.now()
         for attempt in self.running:
             attempt.stop()

@@ -1,4 +1,4 @@
-"""Runs a program once, and keeps what is told of it."""
+"""Runs a program once, with its outputs and its log file."""
 
 from __future__ import annotations
 
@@ -20,7 +20,7 @@ Judge = Callable[[Exit, Captured, bytes], Verdict]
 
 
 class Try:
-    """A program that runs once, with its outputs and its log file."""
+    """A program that runs once, and what it writes."""
 
     def __init__(self, supervisor: Supervisor, settings: Settings, judge: Judge) -> None:
         self._supervisor, self._judge = supervisor, judge
@@ -28,7 +28,7 @@ class Try:
         self._log: Log | None = None
 
     def start(self, program: Program, limits: Limits, log_file: bool = False) -> Attempt:
-        """Start the program, with a log file if it takes one."""
+        """Start the program, with a log file if it has that option."""
         consumers = {STANDARD_OUTPUT: self._stdout.feed, STANDARD_ERROR: self._stderr.feed}
         if log_file:
             self._log = Log()
@@ -36,18 +36,18 @@ class Try:
         try:
             return self._supervisor.start(program, consumers, limits)
         except OSError:
-            self._take_log()
+            self._read_log()
             raise
 
-    def _take_log(self) -> bytes:
+    def _read_log(self) -> bytes:
         """Return what the log file says, if there is one."""
-        return self._log.take() if self._log else b""
+        return self._log.read_and_close() if self._log else b""
 
     def ending(self, attempt: Attempt, ended: Exit) -> Ending:
         """Return how the attempt ended."""
         stdout = self._stdout.captured()
         stderr = self._stderr.captured(LOG_FILE_WARNING if self._log else b"")
-        verdict = self._judge(ended, stdout, self._take_log())
+        verdict = self._judge(ended, stdout, self._read_log())
         if attempt.is_timed_out:
             verdict = Verdict.TIMED_OUT
         elif attempt.is_cancelled:

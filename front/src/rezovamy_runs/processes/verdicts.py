@@ -7,7 +7,7 @@ import re
 
 from rezovamy_runs.processes.jobs import Captured, Exit, Job, Verdict
 
-# What libtest prints at the very end where one test ran.
+# What libtest prints at the very end if one test ran.
 PASSED = re.compile(
     rb"\ntest result: ok\. 1 passed; 0 failed; 0 ignored; 0 measured; \d+ filtered out; "
     rb"finished in [\d.]+s\n\n\Z"
@@ -58,7 +58,7 @@ def by_test(job: Job, ended: Exit, stdout: Captured, log: bytes) -> Verdict:
 
 
 def if_cancelled(said: Verdict, ended: Exit) -> Verdict:
-    """Return how an attempt ended that was asked to end since the run was cancelled."""
+    """Return how an attempt ended that was asked to end because the run was cancelled."""
     if said is Verdict.PASSED or (said is Verdict.FAILED and ended.status == LIBTEST_FAILED):
         return said
     return Verdict.CANCELLED
