@@ -142,7 +142,9 @@ def test_what_a_program_is_given(tmp_path: pathlib.Path) -> None:
     environment = {b"A": b"\xff", b"B": b"two\nlines", b"PWD": b"/"}
     job = Job("alpha", "t", Program(("env", "-0"), str(tmp_path), environment), runs_tests=False)
     assert ending_of(job).stdout.first == b"A=\xff\0B=two\nlines\0PWD=/\0"
+    here = os.getcwd()
     assert ending_of(shell("pwd -P; cat", tmp_path)).stdout.first == f"{tmp_path}\n".encode()
+    assert os.getcwd() == here
     group = python("import os; assert os.getpgrp() == os.getpid()")
     assert ending_of(group).verdict is Verdict.PASSED
 

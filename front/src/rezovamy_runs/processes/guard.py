@@ -114,7 +114,9 @@ def _wait_for(worker: int, caught: set[signal.Signals]) -> int:
             continue
         ended, state = os.waitpid(worker, os.WNOHANG | os.WUNTRACED)
         if ended and os.WIFSTOPPED(state):
-            os.kill(os.getpid(), signal.SIGSTOP)
+            # To stop would drop a SIGCONT that has come already.
+            if signal.SIGCONT not in signal.sigpending():
+                os.kill(os.getpid(), signal.SIGSTOP)
             os.kill(worker, signal.SIGCONT)
         elif ended:
             return os.waitstatus_to_exitcode(state)

@@ -44,14 +44,19 @@ class Loop:
         self._undo.callback(signal.set_wakeup_fd, before)
         for number in caught_signals():
             self._undo.callback(signal.signal, number, signal.signal(number, _note))
-        self._noted = reading
+        self._signal_pipe = reading
         self.add(reading, self._read_signals)
         return self
 
     def _read_signals(self) -> None:
         """Read the signals that were noted."""
         with contextlib.suppress(BlockingIOError):
-            self._signals.extend(os.read(self._noted, MOST_SIGNALS))
+            self._signals.extend(os.read(self._signal_pipe, MOST_SIGNALS))
+
+    def has_noted(self, number: int) -> bool:
+        """Tell whether a signal has come that `turn` will return."""
+        self._read_signals()
+        return number in self._signals
 
     def __exit__(self, *_: object) -> None:
         """Close all descriptors, and restore the handlers of signals."""

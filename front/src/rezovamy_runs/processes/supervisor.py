@@ -131,7 +131,8 @@ class Supervisor:
         for attempt in self.running:
             attempt.stop()
         yield Paused(begin)
-        os.kill(os.getpid(), signal.SIGSTOP)
+        if not self._loop.has_noted(signal.SIGCONT):
+            os.kill(os.getpid(), signal.SIGSTOP)
         now = self._loop.now()
         for attempt in self.running:
             attempt.go_on(now - begin)
