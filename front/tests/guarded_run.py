@@ -1,13 +1,15 @@
 """Runs tests in a guarded process, and prints a line for each event: `python -m` this module.
 
 The words are `build` and a shell script to run first, `blocked` to write without end to standard
-output, and shell scripts, which are the tests.
+output after the first start, `busy` to do nothing for a moment after each event, and shell scripts,
+which are the tests.
 """
 
 from __future__ import annotations
 
 import os
 import sys
+import time
 
 from rezovamy_runs.processes.command import run_command
 from rezovamy_runs.processes.guard import guarded
@@ -57,10 +59,13 @@ def work() -> int:
             end = run_command(loop, program("sh", "-c", words[1]), lambda _: None)
             print(f"built {end.exit.status} {end.exit.signal} {end.cancelled}", flush=True)
             words = words[2:]
-        for event in Run(loop, map(shell, filter("blocked".__ne__, words)), settings):
+        jobs = [shell(word) for word in words if word not in ("blocked", "busy")]
+        for event in Run(loop, jobs, settings):
             line = line_of(event)
             if line:
                 print(line, flush=True)
+            if line and "busy" in words:
+                time.sleep(0.5)
             if "blocked" in words and isinstance(event, Started):
                 while True:
                     print("x" * 1000)

@@ -18,6 +18,7 @@ from rezovamy_runs.processes.jobs import (
     Settings,
     Verdict,
 )
+from rezovamy_runs.processes.output import Capture
 from rezovamy_runs.streams.messages import SECOND
 from tests.process_runs import ending_of, endings_of, libtest, program, python, shell
 
@@ -139,10 +140,10 @@ def test_a_directory_that_is_gone(tmp_path: pathlib.Path) -> None:
 
 def test_what_a_program_is_given(tmp_path: pathlib.Path) -> None:
     """It gets exactly its environment, its directory, and an empty standard input."""
+    here = os.getcwd()
     environment = {b"A": b"\xff", b"B": b"two\nlines", b"PWD": b"/"}
     job = Job("alpha", "t", Program(("env", "-0"), str(tmp_path), environment), runs_tests=False)
     assert ending_of(job).stdout.first == b"A=\xff\0B=two\nlines\0PWD=/\0"
-    here = os.getcwd()
     assert ending_of(shell("pwd -P; cat", tmp_path)).stdout.first == f"{tmp_path}\n".encode()
     assert os.getcwd() == here
     group = python("import os; assert os.getpgrp() == os.getpid()")
@@ -179,6 +180,16 @@ def test_a_long_output_is_not_kept_whole(length: int, first: int, last: int) -> 
         assert kept.last == text[length - last :]
 
 
+@pytest.mark.parametrize("size", [1, 7, 4095, 4096, 4097, 20000])
+def test_an_output_is_kept_the_same_however_it_comes(size: int) -> None:
+    """It may be read in pieces of any size."""
+    text = bytes(number % 251 for number in range(20000))
+    capture = Capture(10)
+    for begin in range(0, len(text), size):
+        capture.feed(text[begin : begin + size])
+    assert capture.captured() == Captured(text[:10], text[-4096:], 20000)
+
+
 def test_a_line_of_5_megabytes_is_read() -> None:
     """Lines mean nothing here."""
     kept = ending_of(shell("head -c 5000000 /dev/zero | tr '\\0' x")).stdout
@@ -202,6 +213,13 @@ def test_a_leak_is_told_and_is_no_failure() -> None:
     assert (ending.verdict, ending.leaked) == (Verdict.PASSED, True)
     assert 0.1 <= time.monotonic() - begin < 2
     assert ending.elapsed < 2 * SECOND
+
+
+def test_a_leak_is_no_timeout() -> None:
+    """The process has ended in time."""
+    settings = Settings(1, timeout=200 * MILLISECOND, leak_wait=500 * MILLISECOND)
+    ending = ending_of(shell("sleep 1 &"), settings)
+    assert (ending.verdict, ending.leaked, ending.is_slow) == (Verdict.PASSED, True, False)
 
 
 def test_what_lets_go_in_time_is_no_leak() -> None:

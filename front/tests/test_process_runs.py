@@ -170,10 +170,12 @@ def test_a_slow_test_is_told_once() -> None:
 def test_fail_fast_lets_running_tests_end() -> None:
     """No further one starts, and none is tried again."""
     jobs = [shell("sleep 0.5; exit 2"), shell("exit 1"), shell("exit 0")]
-    assert list(told(events_of(jobs, Settings(2, fail_fast=True)))) == [
+    assert list(told(events_of(jobs, Settings(2, fail_fast=True, retries=1)))) == [
         "start sleep 0.5; exit 2 1",
         "start exit 1 1",
-        "failed exit 1 1",
+        "failed exit 1 1 again",
+        "start exit 1 2",
+        "failed exit 1 2",
         "cancel test-failure",
         "failed sleep 0.5; exit 2 1",
         "finished",

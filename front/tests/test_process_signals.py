@@ -225,14 +225,29 @@ def test_a_pause_is_told_and_counts_for_no_test(guarded_run: Start) -> None:
     assert int(elapsed) < 3 * 10**9
 
 
-def test_a_run_that_is_told_to_go_on_at_once_is_not_stopped(guarded_run: Start) -> None:
-    """Otherwise it would wait for another signal."""
+def test_a_run_that_is_told_to_go_on_at_once_goes_on(guarded_run: Start) -> None:
+    """Whatever it does just then: otherwise it would wait for another signal."""
+    run = guarded_run("busy", "sleep 2; exit 3")
+    run.line("started")
+    run.process.send_signal(signal.SIGTSTP)
+    time.sleep(0.1)
+    run.process.send_signal(signal.SIGCONT)
+    time.sleep(0.7)
+    run.process.send_signal(signal.SIGTSTP)
+    run.line("paused")
+    run.process.send_signal(signal.SIGCONT)
+    continued, failed, *_ = run.rest()
+    assert continued == "continued"
+    assert failed.startswith("failed 3 ")
+
+
+def test_many_pauses_of_no_length(guarded_run: Start) -> None:
+    """The last signal counts."""
     run = guarded_run("sleep 0.5")
     run.line("started")
-    for _ in range(20):
+    for _ in range(50):
         run.process.send_signal(signal.SIGTSTP)
         run.process.send_signal(signal.SIGCONT)
-    run.wait_for(lambda: run.process.poll() is not None, 5)
     assert run.rest()[-1] == "status 5"
 
 

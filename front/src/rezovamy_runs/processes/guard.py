@@ -23,14 +23,16 @@ from rezovamy_runs.processes.descendants import (
     kill_descendants,
 )
 
-PASSED_ON = {signal.SIGINT, signal.SIGTERM, signal.SIGHUP, signal.SIGTSTP, signal.SIGCONT}
+PASSED_ON = {signal.SIGINT, signal.SIGTERM, signal.SIGHUP, signal.SIGTSTP}
 # What tells the worker that the first process has died.
 FIRST_DIED = signal.SIGRTMIN
 
 
 def caught_signals() -> set[signal.Signals]:
-    """Return the signals that mean something here: an ignored one, as under `nohup`, doesn't."""
-    return {number for number in PASSED_ON if signal.getsignal(number) is not signal.SIG_IGN}
+    """Return the signals to handle. Those that were ignored at the start, as by `nohup`, aren't."""
+    caught = {number for number in PASSED_ON if signal.getsignal(number) is not signal.SIG_IGN}
+    # Ignored or not, this one continues a process.
+    return caught | {signal.SIGCONT}
 
 
 def guarded(work: Callable[[], int]) -> int:
@@ -114,9 +116,8 @@ def _wait_for(worker: int, caught: set[signal.Signals]) -> int:
             continue
         ended, state = os.waitpid(worker, os.WNOHANG | os.WUNTRACED)
         if ended and os.WIFSTOPPED(state):
-            # To stop would drop a SIGCONT that has come already.
+            # SIGCONT is passed on like any other signal. To stop would drop one that is pending.
             if signal.SIGCONT not in signal.sigpending():
                 os.kill(os.getpid(), signal.SIGSTOP)
-            os.kill(worker, signal.SIGCONT)
         elif ended:
             return os.waitstatus_to_exitcode(state)
