@@ -8,6 +8,7 @@ import pathlib
 import signal
 import subprocess
 import sys
+import threading
 import time
 import uuid
 from collections.abc import Callable, Iterator
@@ -43,6 +44,9 @@ class GuardedRun:
             text=True,
             process_group=0,
         )
+        # A run that hangs fails its test, since its output ends here.
+        self.limit = threading.Timer(LONGEST_WAIT, self.kill_all)
+        self.limit.start()
         self.lines: list[str] = []
         self.worker = int(self.line("worker ").split()[1])
 
@@ -112,6 +116,7 @@ def guarded_run() -> Iterator[Callable[..., GuardedRun]]:
 
     yield start
     for run in runs:
+        run.limit.cancel()
         run.kill_all()
         run.process.wait()
         if run.process.stdout:
