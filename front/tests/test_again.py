@@ -53,7 +53,7 @@ def test_what_has_not_passed_is_recorded_as_a_rerun(
 ) -> None:
     """The head tells of which run, and lists all of its tests."""
     programs.write_plan("run alpha t1", "skip alpha t0")
-    done = front_end.run("again")
+    done = front_end.run("again", "--shared")
     assert (done.returncode, done.stderr) == (0, "")
     assert "1 test in " in done.stdout
     assert programs.asked() == [["-p", "alpha", "--lib", *EVENTS, "--exact", "t1"]]
@@ -71,7 +71,7 @@ def test_each_binary_is_run_with_the_words_that_are_given(
 ) -> None:
     """They stand before those that name its tests."""
     programs.write_plan("run alpha t1", "run alpha::it bad", "run alpha::it t2", "skip alpha t0")
-    done = front_end.run("again", made.ID[:9], "--", "--release", "--", "--nocapture")
+    done = front_end.run("again", "--shared", made.ID[:9], "--", "--release", "--", "--nocapture")
     assert done.returncode == 101
     assert "FAIL [0.500s] alpha::it bad" in done.stdout
     assert "3 tests in " in done.stdout
@@ -92,7 +92,7 @@ def test_what_runs_after_a_binary_that_ended_in_a_test_is_told_too(
         "run alpha::bin/c bad",
         "run alpha::bin/d t2",
     )
-    done = front_end.run("again")
+    done = front_end.run("again", "--shared")
     assert done.returncode == 101
     for pattern in (
         r"FAIL \[.*\] alpha exits \(exit code 0\)",
@@ -110,7 +110,7 @@ def test_where_all_have_passed_nothing_is_run(front_end: FrontEnd, programs: Fak
     """It is said, and no run is added."""
     programs.write_plan("skip alpha t0", "skip alpha t1")
     said = f"rezovamy-runs: all tests of run {made.ID} have passed, so nothing is run again"
-    assert faults_of(front_end, 0, "again") == [said]
+    assert faults_of(front_end, 0, "again", "--shared") == [said]
     assert (programs.asked(), len(list(front_end.runs.iterdir()))) == ([], 1)
 
 
@@ -118,12 +118,12 @@ def test_what_cargo_has_no_word_for(front_end: FrontEnd, programs: FakePrograms)
     """It isn't run, which is said."""
     programs.write_plan("run (cargo) (build)")
     nameless = "cargo has no word for it alone; run all tests again"
-    assert faults_of(front_end, 1, "again") == [
+    assert faults_of(front_end, 1, "again", "--shared") == [
         f"rezovamy-runs: (cargo) (build): {nameless}",
         f"rezovamy-runs: nothing of this can be run again alone: {RUN_ALL}",
     ]
     programs.write_plan("run (cargo) (run)", "run alpha t1", "gone beta t9")
-    done = front_end.run("again")
+    done = front_end.run("again", "--shared")
     assert (done.returncode, len(done.stderr.splitlines())) == (0, 2)
     assert "beta t9: the run's test list lacks it, so that it isn't run\n" in done.stderr
 
@@ -134,7 +134,7 @@ def test_tests_that_are_not_there_any_more_have_not_passed(
     """They are said, and the status tells it where all others passed."""
     (programs.folder / "others").write_text("9")
     programs.write_plan("run alpha gone1", "run alpha t1", "run alpha gone2", "run alpha::it gone3")
-    done = front_end.run("again")
+    done = front_end.run("again", "--shared")
     assert "1 passed" in done.stdout
     lacking = "no test of this name is there, as it is built now, so that it didn't run"
     assert done.returncode == 1
@@ -143,7 +143,7 @@ def test_tests_that_are_not_there_any_more_have_not_passed(
         f"rezovamy-runs: alpha::it gone3: {lacking}",
     ]
     programs.write_plan("run alpha gone1", "run alpha bad")
-    assert front_end.run("again").returncode == 101
+    assert front_end.run("again", "--shared").returncode == 101
 
 
 def add_first_run(front_end: FrontEnd, *words: str) -> None:
@@ -178,14 +178,14 @@ def test_tests_that_are_gone_from_the_source_are_not_asked_for_again(
     programs.write_plan(
         "run alpha tests::gone1", "run alpha t1", "run alpha gone2", "skip alpha t0"
     )
-    done = front_end.run("again", "--", "--release")
+    done = front_end.run("again", "--shared", "--", "--release")
     gone = "it is gone, since neither the binary nor a source has a test of this name"
     said = f"rezovamy-runs: alpha tests::gone1, and 1 more of it: {gone}\n"
     assert (done.returncode, done.stderr) == (0, said)
     assert programs.suites() == {"alpha": ["t1", "t0"]}
     programs.write_plan("skip alpha t0", "skip alpha t1", "gone alpha gone1")
     there = f"all tests of run {made.ID} that are still there have passed"
-    assert faults_of(front_end, 0, "again", made.ID) == [
+    assert faults_of(front_end, 0, "again", "--shared", made.ID) == [
         "rezovamy-runs: alpha gone1: the run's test list lacks it, so that it isn't run",
         f"rezovamy-runs: {there}, so nothing is run again",
     ]
@@ -216,7 +216,7 @@ def test_tests_that_may_be_there_under_other_names_or_words_are_not_gone(
     programs.write_plan("run alpha gone1", "run alpha t1", "skip alpha t0")
     (programs.folder / "others").write_text(others)
     (programs.folder / "src/more.rs").write_text(source)
-    done = front_end.run("again", made.ID, "--", *words)
+    done = front_end.run("again", "--shared", made.ID, "--", *words)
     assert done.returncode == status
     assert ("no test of this name is there" in done.stderr) == bool(status)
     suites = programs.suites()
@@ -230,7 +230,7 @@ def test_a_binary_that_failed_by_its_own_name_runs_whole(
     """Its tests take the place of the failure."""
     add_first_run(front_end)
     programs.write_plan("run alpha::it it", "skip alpha::it t0")
-    done = front_end.run("again")
+    done = front_end.run("again", "--shared")
     whole = "it may have failed by its own name, so that all of its tests run"
     assert (done.returncode, done.stderr) == (0, f"rezovamy-runs: alpha::it: {whole}\n")
     assert "--exact" not in programs.asked()[0]
@@ -244,13 +244,13 @@ def test_a_target_that_is_gone_is_not_run(front_end: FrontEnd, programs: FakePro
     programs.write_plan(
         "run alpha::old t1", "run alpha::old t2", "run alpha::it t3", "run alpha t1"
     )
-    done = front_end.run("again")
+    done = front_end.run("again", "--shared")
     gone = "alpha has no such target any more, so that it isn't run"
     said = f"rezovamy-runs: alpha::old t1, and 1 more of it: {gone}\n"
     assert (done.returncode, done.stderr, len(programs.asked())) == (0, said, 2)
     programs.write_plan("run alpha::old t1", "skip alpha t1")
     there = f"all tests of run {made.ID} that are still there have passed"
-    assert faults_of(front_end, 0, "again", made.ID)[1:] == [
+    assert faults_of(front_end, 0, "again", "--shared", made.ID)[1:] == [
         f"rezovamy-runs: {there}, so nothing is run again",
     ]
 
@@ -273,11 +273,11 @@ def test_tests_that_never_started_in_a_rerun_are_those_of_the_run_before(
     add_unseen(front_end, made.ID, 2)
     add_unseen(front_end, OTHER, 5, parent=made.ID)
     programs.write_plan("run alpha t1")
-    done = front_end.run("again", OTHER)
+    done = front_end.run("again", "--shared", OTHER)
     assert done.returncode == 1
     assert "2 tests of the run never started" in done.stderr
     (front_end.runs / f"{made.ID}.bundle").unlink()
-    done = front_end.run("again", OTHER)
+    done = front_end.run("again", "--shared", OTHER)
     assert (done.returncode, done.stderr) == (0, "")
 
 
@@ -287,9 +287,9 @@ def test_tests_that_never_started_are_counted(front_end: FrontEnd, programs: Fak
     programs.write_plan()
     nameless = "2 tests of the run never started, and nothing names them"
     said = f"rezovamy-runs: {nameless}: `rezovamy-runs test` runs all"
-    assert faults_of(front_end, 1, "again")[0] == said
+    assert faults_of(front_end, 1, "again", "--shared")[0] == said
     programs.write_plan("run alpha t1")
-    done = front_end.run("again", made.ID)
+    done = front_end.run("again", "--shared", made.ID)
     assert "1 passed" in done.stdout
     assert (done.returncode, done.stderr) == (1, f"{said}\n")
 
@@ -297,7 +297,7 @@ def test_tests_that_never_started_are_counted(front_end: FrontEnd, programs: Fak
 def test_a_plan_that_is_none(front_end: FrontEnd, programs: FakePrograms) -> None:
     """The line is named."""
     programs.write_plan("run alpha t\x0bu", "t2")
-    (line,) = faults_of(front_end, 1, "again")
+    (line,) = faults_of(front_end, 1, "again", "--shared")
     assert "line 3 names no test" in line
 
 
@@ -306,7 +306,7 @@ def test_a_run_that_is_broken_off_runs_no_other_binary(
 ) -> None:
     """What ran is recorded."""
     programs.write_plan("run alpha t1", "run alpha hangs", "run alpha::it t2")
-    done = front_end.interrupt("again", once=lambda: bool(programs.asked()))
+    done = front_end.interrupt("again", "--shared", once=lambda: bool(programs.asked()))
     assert (done.returncode, len(programs.asked())) == (130, 1)
     assert "1 passed, 1 never ended; the run was broken off" in done.stdout
     assert json.loads(front_end.output("list", "--json"))[0]["status"] == "cancelled"

@@ -5,6 +5,7 @@ from __future__ import annotations
 import pytest
 
 from rezovamy_runs.faults.fault import Fault
+from rezovamy_runs.collecting import cargo_line
 from rezovamy_runs.runner import cargo_words
 
 EVENTS = ["-Z", "unstable-options", "--format", "json", "--report-time", "--show-output"]
@@ -81,4 +82,4 @@ def test_words_with_which_no_test_runs(word: str) -> None:
 )
 def test_the_manifest(words: list[str], path: str | None) -> None:
     """It stands before `--`."""
-    assert cargo_words.manifest_of(words) == path
+    assert cargo_line.manifest_of(words) == path

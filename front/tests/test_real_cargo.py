@@ -35,6 +35,9 @@ FILES = {
     ".cargo/config.toml": "[term]\nquiet = true\n",
 }
 LEFT_OUT = ("RUSTC_BOOTSTRAP", "REZOVAMY_RUNS")
+# Each test a process, or those of a binary in one.
+WAYS: list[tuple[str, ...]] = [(), ("--shared",)]
+both_ways = pytest.mark.parametrize("way", WAYS, ids=["processes", "shared"])
 PLAIN_LOCALE = {"LC_ALL": "C", "PYTHONUTF8": "0", "PYTHONCOERCECLOCALE": "0"}
 
 
@@ -63,9 +66,10 @@ def front_end(crate: pathlib.Path, program: pathlib.Path) -> FrontEnd:
     return FrontEnd(crate, {**left, **own})
 
 
-def test_a_run_with_a_failure(front_end: FrontEnd) -> None:
+@both_ways
+def test_a_run_with_a_failure(front_end: FrontEnd, way: tuple[str, ...]) -> None:
     """It is recorded with its outputs, also from a folder below, and compared with another one."""
-    done = front_end.run("test", folder="src")
+    done = front_end.run("test", *way, folder="src")
     assert done.returncode == 101, done.stderr
     for part in (
         "2 tests in ",
@@ -75,38 +79,48 @@ def test_a_run_with_a_failure(front_end: FrontEnd) -> None:
     ):
         assert part in done.stdout
     assert "    fine\n" in front_end.run("show", "passes", folder="src").stdout
-    assert front_end.run("test", "--", "--lib", "--", "passes", folder="src").returncode == 0
+    assert front_end.run("test", *way, "--", "--lib", "--", "passes", folder="src").returncode == 0
     before = json.loads(front_end.output("list", "--json"))[1]["id"]
     compared = json.loads(front_end.run("compare", before, "--json").stdout)
     assert [test["test"] for test in compared["gone"]] == ["fails", "hangs"]
 
 
-def test_a_locale_without_utf_8(front_end: FrontEnd) -> None:
+@both_ways
+def test_a_locale_without_utf_8(front_end: FrontEnd, way: tuple[str, ...]) -> None:
     """Words and paths are UTF-8 all the same."""
     runs = {"REZOVAMY_RUNS": str(front_end.folder / "größe")}
     plain = FrontEnd(front_end.folder, {**front_end.environment, **PLAIN_LOCALE, **runs})
-    done = plain.run("test", "--profile", "größe", "--", "--lib", "--", "passes", "größe")
+    done = plain.run("test", *way, "--profile", "größe", "--", "--lib", "--", "passes", "größe")
     assert done.returncode == 0, done.stderr
     assert f"in {front_end.folder}/größe/" in done.stdout
     shown = front_end.run("show", done.stdout.rpartition(" in ")[2].strip()).stdout
     assert "profile größe: cargo test --lib -- passes größe\n" in shown
 
 
-def test_what_failed_runs_again(front_end: FrontEnd) -> None:
+@both_ways
+def test_what_failed_runs_again(front_end: FrontEnd, way: tuple[str, ...]) -> None:
     """It fails again."""
-    assert front_end.run("test").returncode == 101
-    done = front_end.run("again")
+    assert front_end.run("test", *way).returncode == 101
+    done = front_end.run("again", *way)
     assert done.returncode == 101, done.stderr
     assert re.search("1 test in .*: 0 passed, 1 failed, 1 skipped\n", done.stdout)
 
 
-def test_a_run_that_is_broken_off_leaves_no_process(front_end: FrontEnd) -> None:
-    """It is recorded as what it is."""
+@pytest.mark.parametrize(
+    ("way", "ended"),
+    [((), {"failed": 1, "unended": 0}), (("--shared",), {"failed": 0, "unended": 1})],
+)
+def test_a_run_that_is_broken_off_leaves_no_process(
+    front_end: FrontEnd, way: tuple[str, ...], ended: dict[str, int]
+) -> None:
+    """It is recorded as what it is. Of a test in a shared process nothing tells how it ended."""
     started = front_end.folder / "started"
-    done = front_end.interrupt("test", "--", "--", "--ignored", once=started.exists)
+    started.unlink(missing_ok=True)
+    done = front_end.interrupt("test", *way, "--", "--", "--ignored", once=started.exists)
     assert done.returncode == 130
     last = json.loads(front_end.output("list", "--json"))[0]
-    assert (last["status"], last["unended"]) == ("cancelled", 1)
+    assert last["status"] == "cancelled"
+    assert {name: last[name] for name in ended} == ended
     binaries = str(front_end.folder / "target/debug/deps/tiny-").encode()
     assert [words for words in command_lines() if words.startswith(binaries)] == []
 

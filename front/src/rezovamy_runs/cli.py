@@ -10,7 +10,7 @@ import sys
 from collections.abc import Sequence
 from typing import TYPE_CHECKING, NoReturn, Protocol
 
-from rezovamy_runs.command_line import discard, say
+from rezovamy_runs.answers import PROGRAM, WRONG_WORDS, answer
 from rezovamy_runs.faults.fault import Fault
 
 if TYPE_CHECKING:
@@ -18,7 +18,6 @@ if TYPE_CHECKING:
     from rezovamy_runs.commands import list as list_command
     from rezovamy_runs.commands import page, prune, show, test, trace
 
-PROGRAM = "rezovamy-runs"
 ABOUT = "Records the test runs of a Rust workspace, and shows what was recorded."
 # The commands in the order of `--help`.
 COMMANDS = (
@@ -34,7 +33,6 @@ COMMANDS = (
     "prune",
     "explain",
 )
-WRONG_WORDS, INTERRUPTED, BROKEN_PIPE = 2, 130, 141
 # A run is many values that go all at once, and to look for circles among them takes longer than
 # to read them.
 VALUES_BEFORE_A_LOOK = 1_000_000
@@ -111,51 +109,11 @@ def settle_streams() -> None:
             stream.reconfigure(errors="backslashreplace")
 
 
-def give_up_output() -> None:
-    """Let nothing more be written to standard output, where it can't be."""
-    if sys.stdout is not None:
-        discard(sys.stdout)
-
-
-def complain(line: str) -> None:
-    """Say a fault, where somebody listens."""
-    try:
-        say(f"{PROGRAM}: {line}")
-    except (OSError, ValueError):
-        pass
-
-
-def told(status: int) -> int:
-    """Return the status as a process can tell it, by one byte; none but 0 becomes 0."""
-    return status & 255 or int(status != 0)
-
-
 def main() -> int:
     """Run the front end on the words of the process, and return its status."""
     gc.set_threshold(VALUES_BEFORE_A_LOOK)
     settle_streams()
-    try:
-        status = run(sys.argv[1:])
-        if sys.stdout is not None:
-            sys.stdout.flush()
-        return told(status)
-    except Fault as fault:
-        complain(str(fault))
-        return told(fault.status)
-    except BrokenPipeError:
-        give_up_output()
-        return BROKEN_PIPE
-    except KeyboardInterrupt:
-        complain("broken off")
-        return INTERRUPTED
-    except OSError as error:
-        give_up_output()
-        where = error.filename or "standard output or a file"
-        complain(
-            f"{where} can't be read or written: {error.strerror or error}; "
-            "make room or give access, and try again"
-        )
-        return 1
+    return answer(lambda: run(sys.argv[1:]))
 
 
 if TYPE_CHECKING:

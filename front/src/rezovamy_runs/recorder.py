@@ -154,10 +154,25 @@ def record(store: Store, session: Session) -> pathlib.Path:
     with store.adding(session.run_id) as aside:
         words = ["record", str(aside), *limits(3 * len(session.data))]
         run(words, input=session.data, stdout=subprocess.DEVNULL)
-        # A program that is another one may end well, and leave the file as it is made: empty.
-        if not aside.stat().st_size:
-            raise Fault(
-                f"{find()} wrote no bundle: it isn't rezovamy, "
-                "so name another program in REZOVAMY"
-            )
+        refuse_empty(aside)
     return store.path_of(session.run_id)
+
+
+def record_stream(store: Store, run_id: str, stream: IO[bytes]) -> pathlib.Path:
+    """Record the session in a file, as `record` does."""
+    with store.adding(run_id) as aside:
+        words = ["record", str(aside), *limits(3 * os.fstat(stream.fileno()).st_size)]
+        run(words, stdin=stream, stdout=subprocess.DEVNULL)
+        refuse_empty(aside)
+    return store.path_of(run_id)
+
+
+def refuse_empty(path: pathlib.Path) -> None:
+    """Raise a fault if a bundle has no bytes.
+
+    A program that is another one may end well, and leave the file as it is made.
+    """
+    if not path.stat().st_size:
+        raise Fault(
+            f"{find()} wrote no bundle: it isn't rezovamy, so name another program in REZOVAMY"
+        )

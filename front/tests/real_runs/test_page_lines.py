@@ -21,7 +21,7 @@ pytestmark = [pytest.mark.cargo, pytest.mark.program]
 BLOCK = re.compile(r"^```sh\n(.*?)^```", re.M | re.S)
 # The front end finds the program of the clone, and the folder of the runs below the target.
 LEFT_OUT = ("REZOVAMY", "REZOVAMY_RUNS")
-COUNTS = "7 tests in .*: 5 passed, 2 failed, 1 skipped"
+COUNTS = "8 tests in .*: 6 passed, 2 failed, 1 skipped"
 
 
 @dataclasses.dataclass(frozen=True)
@@ -98,7 +98,7 @@ def test_the_next_lines_show_the_run(clone: Clone) -> None:
         r"^/.*/junit\.xml\n\Z",
     ):
         assert re.search(part, shown, re.M), part
-    assert counts_of(clone.target / "rezovamy-junit/junit.xml") == ["8", "2", "0"]
+    assert counts_of(clone.target / "rezovamy-junit/junit.xml") == ["9", "2", "0"]
 
 
 def test_the_lines_that_call_each_program(clone: Clone) -> None:

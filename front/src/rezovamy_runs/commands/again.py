@@ -10,15 +10,19 @@ from collections.abc import Iterable
 from rezovamy_runs import formatting
 from rezovamy_runs import recorder
 from rezovamy_runs.bundles import bundle
+from rezovamy_runs.collecting.cargo_line import manifest_of
 from rezovamy_runs.command_line import add_run, options_of, say
+from rezovamy_runs.commands import run_options
 from rezovamy_runs.commands import test as test_command
 from rezovamy_runs.faults.fault import Fault
 from rezovamy_runs.model import Summary
 from rezovamy_runs.runner import cargo_words
 from rezovamy_runs.runner import missing_tests
 from rezovamy_runs.runner import rerun_plan
+from rezovamy_runs.runner.process_run import ProcessRun
 from rezovamy_runs.runner.rerun_plan import Plan
 from rezovamy_runs.store import run_folder
+from rezovamy_runs.streams.session_writer import Suites
 
 SUMMARY = "run again what hasn't passed in a run, with the words after --, and record that"
 TAKES_REST = True
@@ -33,43 +37,56 @@ class Options:
     run: str
     page: bool
     junit: bool
+    shared: bool
     rest: list[str]
 
 
 def add_options(parser: argparse.ArgumentParser) -> None:
     """Take a run, and what else is written."""
-    parser.usage = "rezovamy-runs again [--page] [--junit] [RUN] [-- WORDS OF CARGO TEST]"
+    parser.usage = (
+        "rezovamy-runs again [--page] [--junit] [OPTIONS OF A RUN] [RUN] [-- WORDS OF CARGO TEST]"
+    )
     add_run(parser)
     test_command.add_outputs(parser)
+    run_options.add_options(parser)
 
 
 def run(words: argparse.Namespace) -> int:
     """Run the tests again, record them, and return their status; 0 where all have passed."""
     options = options_of(Options, words)
-    manifest = cargo_words.manifest_of(options.rest)
+    manifest = manifest_of(options.rest)
     runs = run_folder.here(manifest)
     path = runs.find(options.run)
     plan, before = plan_of(path), bundle.read_summary(path)
     first = root_bundle(plan, before)
     say_each([*rerun_plan.remarks(plan), *missing_tests.forget_targets(plan, manifest)])
-    commands = [
-        cargo_words.cargo_words(chosen.words(options.rest))
-        for chosen in rerun_plan.selections(plan)
-    ]
+    calls = [chosen.words(options.rest) for chosen in rerun_plan.selections(plan)]
     nameless = never_started(first)
-    if not commands:
+    if not calls:
         say_each(nameless)
         return nothing_to_run(plan, before, bool(nameless))
     outputs = test_command.Outputs(runs, options.page, options.junit)
-    outputs.prepare()
     plan.is_same_build = missing_tests.is_same_build(first, options.rest)
     given = ["--", *options.rest] if options.rest else []
     cli_args = ["rezovamy-runs", "again", before.id, *given]
-    session = test_command.run_cargo(commands, before.profile, cli_args, plan)
-    status = outputs.keep(session)
-    lacking = nameless if status else [*nameless, *rerun_plan.not_found(plan, session.suites)]
-    say_each([*missing_tests.lines(plan, session.suites), *lacking])
-    return status or (NOT_ALL if lacking else 0)
+
+    def judge(status: int, suites: Suites) -> int:
+        """Say what didn't run, and return the status of the rerun."""
+        lacking = nameless if status else [*nameless, *rerun_plan.not_found(plan, suites)]
+        say_each([*missing_tests.lines(plan, suites), *lacking])
+        return status or (NOT_ALL if lacking else 0)
+
+    if options.shared:
+        run_options.refuse_with_shared(words)
+        outputs.prepare()
+        commands = [cargo_words.cargo_words(call) for call in calls]
+        session = test_command.run_cargo(commands, before.profile, cli_args, plan)
+        return judge(outputs.keep(session), session.suites)
+    of_run = run_options.options_of_run(words)
+    process_run = ProcessRun(calls, of_run, before.profile, cli_args, plan)
+    return test_command.guarded_status(
+        lambda: outputs.run(process_run, lambda made: judge(made.status, made.suites))
+    )
 
 
 def say_each(lines: Iterable[str]) -> None:

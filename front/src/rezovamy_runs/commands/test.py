@@ -8,20 +8,28 @@ import os
 import pathlib
 import stat
 import sys
+from collections.abc import Callable
 from typing import BinaryIO
 
 from rezovamy_runs import recorder
 from rezovamy_runs import terminal
+from rezovamy_runs.answers import answer
 from rezovamy_runs.bundles import bundle
+from rezovamy_runs.collecting import cargo_call
+from rezovamy_runs.collecting.collect import BuildFailed
+from rezovamy_runs.collecting.cargo_line import manifest_of
 from rezovamy_runs.command_line import input_stream, options_of, print_out, whole
 from rezovamy_runs.commands import junit as junit_command
 from rezovamy_runs.commands import page as page_command
+from rezovamy_runs.commands import run_options
 from rezovamy_runs.faults.fault import Fault
 from rezovamy_runs.page import document
+from rezovamy_runs.processes import guard
 from rezovamy_runs.report.run_text import Printer
 from rezovamy_runs.runner import cargo_words
 from rezovamy_runs.runner.cargo_runs import PAUSE, CargoRuns
 from rezovamy_runs.runner.line_stream import LineStream
+from rezovamy_runs.runner.process_run import ProcessRun, Recordable
 from rezovamy_runs.runner.progress import Progress
 from rezovamy_runs.runner.rerun_plan import Plan
 from rezovamy_runs.runner.session_builder import Session, SessionBuilder
@@ -44,13 +52,15 @@ class Options:
     profile: str
     page: bool
     junit: bool
+    shared: bool
     rest: list[str]
 
 
 def add_options(parser: argparse.ArgumentParser) -> None:
-    """Take where lines come from that are there."""
+    """Take how tests are run, or where lines come from that are there."""
     parser.usage = (
-        "rezovamy-runs test [--profile NAME] [--page] [--junit] [-- WORDS OF CARGO TEST]\n"
+        "rezovamy-runs test [--profile NAME] [--page] [--junit] [OPTIONS OF A RUN] "
+        "[-- WORDS OF CARGO TEST]\n"
         "       rezovamy-runs test --from FILE|- [--status N] [--profile NAME] [--page] [--junit]"
     )
     parser.add_argument(
@@ -73,6 +83,7 @@ def add_options(parser: argparse.ArgumentParser) -> None:
         help="the run's profile (default)",
     )
     add_outputs(parser)
+    run_options.add_options(parser)
 
 
 def add_outputs(parser: argparse.ArgumentParser) -> None:
@@ -99,15 +110,37 @@ def run(words: argparse.Namespace) -> int:
             2,
         )
     recorder.find()
-    runs = run_folder.here(cargo_words.manifest_of(options.rest))
+    runs = run_folder.here(manifest_of(options.rest))
     outputs = Outputs(runs, options.page, options.junit)
-    outputs.prepare()
-    if options.source is None:
+    cli_args = ["cargo", "test", *options.rest]
+    if options.source is not None:
+        run_options.refuse_with_lines(words)
+        outputs.prepare()
+        return outputs.keep(read_lines(options, options.source))
+    if options.shared:
+        run_options.refuse_with_shared(words)
+        outputs.prepare()
         commands = [cargo_words.cargo_words(options.rest)]
-        session = run_cargo(commands, options.profile, ["cargo", "test", *options.rest])
-    else:
-        session = read_lines(options, options.source)
-    return outputs.keep(session)
+        return outputs.keep(run_cargo(commands, options.profile, cli_args))
+    cargo_call.read(options.rest)
+    process_run = ProcessRun(
+        [options.rest], run_options.options_of_run(words), options.profile, cli_args
+    )
+    return guarded_status(lambda: outputs.run(process_run))
+
+
+def guarded_status(work: Callable[[], int]) -> int:
+    """Do the work in a process of its own, so that no process is left; return its status."""
+    status = guard.guarded(lambda: answer(work))
+    return status if status >= 0 else 128 - status
+
+
+Judge = Callable[[Recordable], int]
+
+
+def status_of(made: Recordable) -> int:
+    """Return the status of a run that was recorded."""
+    return made.status
 
 
 @dataclasses.dataclass(frozen=True)
@@ -126,17 +159,39 @@ class Outputs:
 
     def keep(self, session: Session) -> int:
         """Record a session, print what came of it, and return the status of its tests."""
+        return self._keep(session.status, lambda: recorder.record(self.runs, session))
+
+    def run(self, process_run: ProcessRun, judge: Judge = status_of) -> int:
+        """Run tests as processes, record the run, and return what `judge` says of it.
+
+        It is cargo's status if the build failed.
+        """
+        self.prepare()
+        try:
+            made = process_run.run()
+        except BuildFailed as failed:
+            return failed.status
+
+        def record() -> pathlib.Path:
+            with made.session() as stream:
+                return recorder.record_stream(self.runs, made.run_id, stream)
+
+        self._keep(made.status, record)
+        return judge(made)
+
+    def _keep(self, status: int, record: Callable[[], pathlib.Path]) -> int:
+        """Record a run that ended with a status, and print what came of it."""
         recorder.hear_signals()
         try:
-            path = recorder.record(self.runs, session)
+            path = record()
             print_out(summary_of(self.runs, path))
             self._write_more(path)
         except (Fault, OSError) as error:
-            if session.status == 0:
+            if status == 0:
                 raise
             said = error if isinstance(error, Fault) else error.strerror or error
-            raise Fault(f"the tests failed, and besides: {said}", session.status) from error
-        return session.status
+            raise Fault(f"the tests failed, and besides: {said}", status) from error
+        return status
 
     def _write_more(self, path: pathlib.Path) -> None:
         """Write what else is asked for of a run that was recorded, and print where it is."""

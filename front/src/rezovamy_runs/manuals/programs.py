@@ -6,6 +6,7 @@ import argparse
 import dataclasses
 
 from rezovamy_runs import cli
+from rezovamy_runs.answers import PROGRAM
 from rezovamy_runs.commands import junit_xml, session_from_libtest
 from rezovamy_runs.faults import causes
 from rezovamy_runs.manuals.tables import Program, program_of
@@ -92,7 +93,7 @@ def add_option(parser: argparse.ArgumentParser, option: str) -> None:
 
 def runs_program() -> Program:
     """Return the front end. Which of its commands take the words after `--` no parser knows."""
-    program = program_of(cli.parser(), cli.PROGRAM)
+    program = program_of(cli.parser(), PROGRAM)
     commands = [
         dataclasses.replace(command, takes_rest=cli.module_of(command.name).TAKES_REST)
         for command in program.commands

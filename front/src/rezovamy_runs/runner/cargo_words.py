@@ -6,8 +6,8 @@ docs/FRONT_END.md describes these.
 from __future__ import annotations
 
 import re
-from collections.abc import Sequence
 
+from rezovamy_runs.collecting.cargo_line import has_option, split_words
 from rezovamy_runs.faults.fault import Fault
 
 EVENTS = ["-Z", "unstable-options", "--format", "json", "--report-time", "--show-output"]
@@ -15,17 +15,6 @@ EVENTS = ["-Z", "unstable-options", "--format", "json", "--report-time", "--show
 # perhaps with others.
 WITHOUT_TESTS = ("--list", "--help", "-h")
 QUIET = re.compile(r"--quiet|-[rv]*q.*")
-
-
-def split_words(words: list[str]) -> tuple[list[str], list[str]]:
-    """Split words into what stands before the first `--`, and what stands after it."""
-    place = words.index("--") if "--" in words else len(words)
-    return words[:place], words[place + 1 :]
-
-
-def has_option(words: Sequence[str], option: str) -> bool:
-    """Return whether an option is among words, alone or with its value."""
-    return any(word == option or word.startswith(option + "=") for word in words)
 
 
 def cargo_words(words: list[str]) -> list[str]:
@@ -68,14 +57,3 @@ def refuse_words(own: list[str], of_tests: list[str]) -> None:
     if found:
         nothing = f"with {found} no test runs, so there is nothing to record"
         raise Fault(f"{nothing}: hand it to `cargo test` itself", 2)
-
-
-def manifest_of(words: list[str]) -> str | None:
-    """Return the value of `--manifest-path` among the words, None where it isn't there."""
-    own, _ = split_words(words)
-    for place, word in enumerate(own):
-        if word.startswith("--manifest-path="):
-            return word.partition("=")[2]
-        if word == "--manifest-path" and place + 1 < len(own):
-            return own[place + 1]
-    return None

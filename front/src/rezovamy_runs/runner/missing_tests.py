@@ -7,6 +7,7 @@ its package has its name, and the binary has no test that is new.
 
 from __future__ import annotations
 
+import dataclasses
 import os
 import pathlib
 import re
@@ -14,14 +15,13 @@ from collections.abc import Collection, Iterator
 
 from rezovamy_runs import cargo
 from rezovamy_runs.bundles import bundle
+from rezovamy_runs.collecting.cargo_line import split_words
 from rezovamy_runs.faults.fault import Fault
 from rezovamy_runs.runner import rerun_plan
-from rezovamy_runs.runner.cargo_words import split_words
 from rezovamy_runs.runner.rerun_plan import Plan
 from rezovamy_runs.streams.cargo_metadata import Package, packages_of
 from rezovamy_runs.streams.run_state import RunState
 from rezovamy_runs.streams.targets import LIBRARIES, doctests_of, own_names, target_of
-from rezovamy_runs.streams.test_runs import BinaryRun
 
 # The words of cargo that decide what is built, those with a value apart.
 FLAGS = {"--all-features", "--no-default-features", "--release", "-r"}
@@ -97,27 +97,43 @@ def forget_tests(plan: Plan, state: RunState) -> None:
     for binary_id, names in list(plan.run.items()):
         runs = [binary for binary in state.binaries if binary.id == binary_id]
         there = {test.name for binary in runs for test in binary.tests()}
-        lacking = [name for name in names if name not in there]
-        if lacking and runs and all(binary.is_complete() for binary in runs):
-            gone = MissingTests(plan, state, runs[-1], lacking).gone()
-            plan.forget(binary_id, gone)
+        if runs and all(binary.is_complete() for binary in runs):
+            number, folder = runs[-1].number_of_tests(), state.targets.folders.get(binary_id)
+            forget(plan, names, Found(binary_id, there, number, folder))
+
+
+@dataclasses.dataclass(frozen=True)
+class Found:
+    """The tests that are there of a binary: their names as far as they are known, and how many.
+
+    `folder` is that of the package, None where nothing says it.
+    """
+
+    binary_id: str
+    names: Collection[str]
+    number: int
+    folder: pathlib.Path | None
+
+
+def forget(plan: Plan, names: Collection[str], found: Found) -> None:
+    """Take out of a plan those tests of a binary that are gone."""
+    lacking = [name for name in names if name not in found.names]
+    if lacking:
+        plan.forget(found.binary_id, MissingTests(plan, found, lacking).gone())
 
 
 class MissingTests:
-    """The tests of a plan that a run of their binary lacks."""
+    """The tests of a plan that their binary lacks."""
 
-    def __init__(
-        self, plan: Plan, state: RunState, binary: BinaryRun, names: Collection[str]
-    ) -> None:
-        self.plan, self.binary, self.names = plan, binary, names
-        self.folder = state.targets.folders.get(binary.id)
+    def __init__(self, plan: Plan, found: Found, names: Collection[str]) -> None:
+        self.plan, self.found, self.names = plan, found, names
 
     def gone(self) -> list[str]:
         """Return those that are gone."""
         return [name for name in self.names if self._is_gone(name)]
 
     def _is_gone(self, name: str) -> bool:
-        binary_id = self.binary.id
+        binary_id, folder = self.found.binary_id, self.found.folder
         if name in own_names(binary_id):
             # The binary failed by its own name before, and ended well now.
             return rerun_plan.runs_whole(binary_id, self.plan.run[binary_id])
@@ -125,12 +141,12 @@ class MissingTests:
             return False
         if "::doc/" in binary_id:
             return True
-        is_known = self.binary.number_of_tests() <= self._number_known()
-        return is_known and self.folder is not None and not is_named(self.folder, name)
+        is_known = self.found.number <= self._number_known()
+        return is_known and folder is not None and not is_named(folder, name)
 
     def _number_known(self) -> int:
         """Count the tests of the binary that the plan names, without those that it lacks."""
-        binary_id, plan = self.binary.id, self.plan
+        binary_id, plan = self.found.binary_id, self.plan
         named = {*plan.run[binary_id], *plan.skip.get(binary_id, ())}
         return len(named - set(own_names(binary_id))) - len(self.names)
 

@@ -5,7 +5,7 @@ from __future__ import annotations
 import shutil
 import sys
 import time
-from collections.abc import Callable
+from collections.abc import Callable, Iterable
 from typing import TextIO
 
 from rezovamy_runs import formatting, terminal
@@ -16,8 +16,8 @@ from rezovamy_runs.streams.test_runs import TestRun
 ON_TERMINAL, ELSEWHERE = 0.2, 10
 
 
-class Progress:
-    """Prints on standard error how far a run is; the reader comes once it is there."""
+class ProgressLine:
+    """A line on standard error that says how far a run is, above which other lines are printed."""
 
     def __init__(
         self, stream: TextIO | None = None, clock: Callable[[], float] = time.monotonic
@@ -25,15 +25,17 @@ class Progress:
         self.stream: TextIO | None = sys.stderr if stream is None else stream
         self.is_terminal = terminal.is_terminal(self.stream)
         self.paint = terminal.Paint(terminal.colours(self.stream))
-        self.reader: Reader | None = None
         self._clock = clock
-        self._reported: set[TestRun] = set()
         self._is_drawn = False
         self._drawn_at = clock()
 
     def print_line(self, line: str) -> None:
         """Print a line, after which the line of progress comes again."""
         self._write(formatting.harmless(line) + "\n")
+
+    def print_lines(self, lines: Iterable[str]) -> None:
+        """Print lines whose texts are without harm already, and may have colours."""
+        self._write("".join(f"{line}\n" for line in lines))
 
     def _write(self, text: str) -> None:
         """Print a text in place of the line of progress.
@@ -49,20 +51,42 @@ class Progress:
         except (OSError, ValueError):
             self.stream = None
 
-    def refresh(self) -> None:
-        """Print what is new, if the last time was long enough ago."""
+    def is_due(self) -> bool:
+        """Tell whether the line was drawn long enough ago, and is to be drawn again."""
         if self._clock() - self._drawn_at < (ON_TERMINAL if self.is_terminal else ELSEWHERE):
-            return
+            return False
         self._drawn_at = self._clock()
-        self._report_failures()
-        if self.reader is None or self.reader.run.first_event is None:
-            return
-        line = progress_line(self.reader)
+        return True
+
+    def draw(self, line: str) -> None:
+        """Show the line, on a terminal in place of the one before."""
         if self.is_terminal:
             self._write(terminal.cut(line, shutil.get_terminal_size().columns))
             self._is_drawn = True
         else:
             self._write(line + "\n")
+
+    def erase(self) -> None:
+        """Take the line away."""
+        self._write("")
+
+
+class Progress(ProgressLine):
+    """Prints on standard error how far a run is; the reader comes once it is there."""
+
+    def __init__(
+        self, stream: TextIO | None = None, clock: Callable[[], float] = time.monotonic
+    ) -> None:
+        super().__init__(stream, clock)
+        self.reader: Reader | None = None
+        self._reported: set[TestRun] = set()
+
+    def refresh(self) -> None:
+        """Print what is new, if the last time was long enough ago."""
+        if self.is_due():
+            self._report_failures()
+            if self.reader is not None and self.reader.run.first_event is not None:
+                self.draw(progress_line(self.reader))
 
     def _report_failures(self) -> None:
         """Name the tests that have failed since the last time."""
@@ -76,7 +100,7 @@ class Progress:
     def finish(self) -> None:
         """Print what is left to say, and take the line of progress away."""
         self._report_failures()
-        self._write("")
+        self.erase()
 
 
 def progress_line(reader: Reader) -> str:
@@ -87,12 +111,20 @@ def progress_line(reader: Reader) -> str:
     running = [test for test in tests if test.is_running() and test not in ended]
     failed = sum(test.has_failed() for test in tests)
     known = len(tests) + sum(binary.unseen() for binary in run.binaries)
-    counted = f"{len(tests) - len(running)} of {formatting.count(known, 'test')} ended"
-    line = f"{counted}, {failed} failed"
+    line = counted(len(tests) - len(running), known, failed)
     if not running:
         return line
     longest = min(running, key=lambda test: test.last.start)
     ran = max(0, run.timeline.clock.current() - longest.last.start.time)
-    others = f", and {len(running) - 1} more" if len(running) > 1 else ""
-    shown = f"{formatting.name(longest.name)} {formatting.duration(ran / 1e9)}"
-    return f"{line}; running: {shown}{others}"
+    return line + longest_of(longest.name, ran, len(running) - 1)
+
+
+def counted(ended: int, known: int, failed: int) -> str:
+    """Return how many of the known tests ended and failed."""
+    return f"{ended} of {formatting.count(known, 'test')} ended, {failed} failed"
+
+
+def longest_of(name: str, ran: int, others: int) -> str:
+    """Return which test has run longest, for so many nanoseconds, and how many run beside it."""
+    beside = f", and {others} more" if others else ""
+    return f"; running: {formatting.name(name)} {formatting.duration(ran / 1e9)}{beside}"

@@ -8,8 +8,8 @@ import os
 import re
 from collections.abc import Collection, Mapping, Sequence
 
+from rezovamy_runs.collecting.cargo_line import split_words
 from rezovamy_runs.json_values import JsonObject, members_of
-from rezovamy_runs.runner.cargo_words import split_words
 from rezovamy_runs.streams.targets import own_names
 
 LINE = re.compile(r"(run|skip|gone) ([^ ]*) (.*)")

@@ -1,0 +1,4 @@
+//! A target whose name another package has too.
+
+#[test]
+fn passes() {}

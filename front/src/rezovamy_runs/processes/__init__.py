@@ -1,0 +1,1 @@
+"""Runs tests and other programs, each as a process, and leaves none of them behind."""

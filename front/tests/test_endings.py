@@ -1,0 +1,334 @@
+"""The tests of `examples/endings`, each run as a process by the front end."""
+
+from __future__ import annotations
+
+import json
+import os
+import pathlib
+import shutil
+import signal
+import subprocess
+import time
+
+import pytest
+
+from rezovamy_runs.bundles import bundle
+from rezovamy_runs.model import Result, Run
+from tests import EXAMPLES
+from tests.front_end import FrontEnd
+
+pytestmark = [pytest.mark.cargo, pytest.mark.program]
+
+LEFT_OUT = ("RUSTC_BOOTSTRAP", "REZOVAMY_RUNS", "RUST_TEST_THREADS", "RUSTDOC")
+BUILT = shutil.ignore_patterns("target", "Cargo.lock")
+RUNNER = '#!/bin/sh\necho "through $1" >> "$THROUGH"\nshift\nexec "$@"\n'
+VARIABLE = "CARGO_TARGET_X86_64_UNKNOWN_LINUX_GNU_RUNNER"
+# How each test of `ways::ends` ends, and what is said of it.
+ENDS = {
+    "passes": (Result.PASS, ""),
+    "fails": (Result.FAIL, "exit code 101"),
+    "answers_an_error": (Result.FAIL, "exit code 101"),
+    "panics_in_a_thread_that_is_joined": (Result.FAIL, "exit code 101"),
+    "panics_in_a_thread_that_is_left": (Result.PASS, ""),
+    "panics_as_it_should": (Result.PASS, ""),
+    "aborts": (Result.ABORT, "signal 6, SIGABRT"),
+    "exits_with_0": (Result.FAIL, "exit code 0"),
+    "exits_with_7": (Result.FAIL, "exit code 7"),
+    "exits_with_101": (Result.FAIL, "exit code 101"),
+    "segfaults": (Result.ABORT, "signal 11, SIGSEGV"),
+    "overflows_its_stack": (Result.ABORT, "signal 6, SIGABRT"),
+    "hangs": (Result.TIMEOUT, ""),
+    "is_killed": (Result.ABORT, "signal 9, SIGKILL"),
+    "leaks_a_child": (Result.LEAK, ""),
+    "closes_descriptor_1": (Result.PASS, ""),
+    "prints_that_it_failed": (Result.PASS, ""),
+    "prints_that_it_passed": (Result.FAIL, "exit code 0"),
+    "passes_at_the_second_try": (Result.PASS, ""),
+}
+LIBRARY = ["tests::größer", "tests::is_stable", "tests::tells_where_it_runs"]
+WHOLE_RUN = {
+    "twin::ends": ["passes"],
+    "twin::doc/twin": ["twin"],
+    "ways": LIBRARY,
+    "ways::ends": [*ENDS, "is_ignored"],
+    "ways::plain": ["plain"],
+    "ways::doc/ways": ["ways"],
+}
+
+
+@pytest.fixture(scope="module")
+def workspace(tmp_path_factory: pytest.TempPathFactory) -> pathlib.Path:
+    """A copy of the workspace."""
+    folder = tmp_path_factory.mktemp("endings") / "workspace"
+    shutil.copytree(EXAMPLES / "endings", folder, ignore=BUILT)
+    return folder
+
+
+@pytest.fixture
+def endings(workspace: pathlib.Path, program: pathlib.Path, tmp_path: pathlib.Path) -> FrontEnd:
+    """A front end in the workspace, with a folder of runs of its own."""
+    own = {
+        "REZOVAMY": str(program),
+        "REZOVAMY_RUNS": str(tmp_path / "runs"),
+        "CARGO_NET_OFFLINE": "true",
+        "RUST_BACKTRACE": "0",
+    }
+    left = {name: value for name, value in os.environ.items() if name not in LEFT_OUT}
+    return FrontEnd(workspace, {**left, **own})
+
+
+def last_run(front_end: FrontEnd) -> Run:
+    """Return the run that was recorded last."""
+    runs = json.loads(front_end.output("list", "--json"))
+    return bundle.read_run(front_end.path_of(runs[0]["id"]))
+
+
+def names_of(run: Run) -> dict[str, list[str]]:
+    """Return the tests of a run by binary, in the order of their names."""
+    names: dict[str, list[str]] = {}
+    for test in run.tests:
+        names.setdefault(test.binary, []).append(test.name)
+    return {binary: sorted(tests) for binary, tests in names.items()}
+
+
+def fresh(front_end: FrontEnd) -> list[bool]:
+    """Return of each thing that `cargo test` built now whether it was there."""
+    words = ["cargo", "test", "--no-run", "--message-format", "json"]
+    done = subprocess.run(
+        words, cwd=front_end.folder, env=front_end.environment, capture_output=True, check=True
+    )
+    lines = (json.loads(line) for line in done.stdout.splitlines())
+    return [line["fresh"] for line in lines if line["reason"] == "compiler-artifact"]
+
+
+def test_each_way_of_ending(endings: FrontEnd) -> None:
+    """Exactly the test that ended so is told so."""
+    done = endings.run("test", "--timeout", "3")
+    assert done.returncode == 101
+    run = last_run(endings)
+    assert names_of(run) == {binary: sorted(tests) for binary, tests in WHOLE_RUN.items()}
+    told = {
+        test.name: (test.attempts[-1].result, test.attempts[-1].detail)
+        for test in run.tests
+        if test.binary == "ways::ends" and test.attempts
+    }
+    assert told == ENDS
+    assert all(test.attempts[0].slot is not None for test in run.tests if test.attempts)
+    others = {
+        (test.binary, test.name): test.attempts[-1].result
+        for test in run.tests
+        if test.binary != "ways::ends"
+    }
+    assert others.pop(("ways::doc/ways", "ways")) is Result.FAIL
+    assert set(others.values()) == {Result.PASS}
+    assert "the second example is wrong" in done.stderr
+    assert "one is not two" in done.stderr
+
+
+def test_nothing_is_compiled_again(endings: FrontEnd) -> None:
+    """It alternates with `cargo test`, and a build script watches RUSTC_BOOTSTRAP."""
+    fresh(endings)
+    for _ in range(2):
+        done = endings.run("test", "--", "--lib")
+        assert (done.returncode, "Compiling" in done.stderr) == (0, False)
+        assert all(fresh(endings))
+
+
+def test_what_a_test_sees(endings: FrontEnd, tmp_path: pathlib.Path) -> None:
+    """Its directory and its environment are those that cargo gives it."""
+    words = ["-p", "ways", "--lib", "tells_where_it_runs"]
+    told = tmp_path / "told"
+    endings.environment["TELL"] = str(told)
+    endings.environment["RUSTDOC"] = "rustdoc"
+    subprocess.run(
+        ["cargo", "test", *words],
+        cwd=endings.folder,
+        env=endings.environment,
+        capture_output=True,
+        check=True,
+    )
+    expected = told.read_text().split("\0")
+    told.unlink()
+    assert endings.run("test", "--", *words).returncode == 0
+    assert told.read_text().split("\0") == expected
+
+
+@pytest.mark.parametrize(
+    ("words", "expected"),
+    [
+        (["--lib"], {"ways": LIBRARY}),
+        (["-p", "twin"], {"twin::ends": ["passes"], "twin::doc/twin": ["twin"]}),
+        (["--doc", "-p", "twin"], {"twin::doc/twin": ["twin"]}),
+        (["--test", "plain"], {"ways::plain": ["plain"]}),
+        (["--tests", "größer"], {"ways": ["tests::größer"], "ways::plain": ["plain"]}),
+        (["--lib", "--", "is", "it"], {"ways": LIBRARY[1:]}),
+        (["--lib", "--", "--skip", "stable", "--skip", "größer"], {"ways": LIBRARY[2:]}),
+        (["--lib", "--", "--exact", "tests::is_stable", "größer"], {"ways": LIBRARY[1:2]}),
+        (["--test", "ends", "--", "--ignored"], {"ways::ends": ["is_ignored"]}),
+        (
+            ["-p", "ways", "--lib", "--features", "more", "--", "feature"],
+            {"ways": ["tests::is_there_with_the_feature"]},
+        ),
+        (
+            ["--lib", "-q", "--", "-q", "--nocapture", "--test-threads=1", "gr"],
+            {"ways": LIBRARY[:1]},
+        ),
+        (["--lib", "--", "nothing"], {}),
+    ],
+)
+def test_words_of_cargo(
+    endings: FrontEnd, words: list[str], expected: dict[str, list[str]]
+) -> None:
+    """They mean what they mean in `cargo test`."""
+    done = endings.run("test", "--", *words)
+    assert done.returncode == 0, done.stderr
+    assert names_of(last_run(endings)) == expected
+
+
+def test_ignored_tests(endings: FrontEnd) -> None:
+    endings.run("test", "--", "-p", "ways", "--test", "ends", "--", "is_")
+    ignored = [test for test in last_run(endings).tests if test.reason is not None]
+    assert [(test.binary, test.name, test.reason) for test in ignored] == [
+        ("ways::ends", "is_ignored", "ignored")
+    ]
+    endings.run("test", "--", "-p", "ways", "--test", "ends", "--", "--include-ignored", "is_ig")
+    (test,) = last_run(endings).tests
+    assert test.attempts[0].result is Result.PASS
+
+
+def test_a_retry(endings: FrontEnd, tmp_path: pathlib.Path) -> None:
+    endings.environment["MARKER"] = str(tmp_path / "marker")
+    done = endings.run("test", "--retries", "2", "--", "--test", "ends", "--", "second_try")
+    assert done.returncode == 0
+    (test,) = last_run(endings).tests
+    assert [attempt.result for attempt in test.attempts] == [Result.FAIL, Result.PASS]
+    assert "1 test in" in done.stdout and "1 passed (1 flaky)" in done.stdout
+
+
+def test_fail_fast(endings: FrontEnd) -> None:
+    words = ["--test-threads", "1", "--fail-fast"]
+    done = endings.run("test", *words, "--", "--test", "ends", "-p", "ways", "--", "exits")
+    assert done.returncode == 101
+    run = last_run(endings)
+    assert (run.counts.failed, run.counts.unseen, run.status) == (1, 2, "cancelled")
+
+
+@pytest.mark.parametrize(
+    ("command", "status", "passed"), [("echo ready", 0, 3), ("echo broken >&2; exit 3", 101, 0)]
+)
+def test_a_setup_script(endings: FrontEnd, command: str, status: int, passed: int) -> None:
+    done = endings.run("test", "--setup", f"database={command}", "--", "--lib")
+    assert done.returncode == status
+    run = last_run(endings)
+    assert [script.id for script in run.scripts] == ["database"]
+    assert run.counts.passed == passed
+    assert ("    broken\n" in done.stderr) == (status != 0)
+
+
+def test_a_build_that_fails(endings: FrontEnd) -> None:
+    """Cargo says why, its status is that of the front end, and nothing is recorded."""
+    done = endings.run("test", "--", "-p", "ways", "--lib", "--features", "broken")
+    assert (done.returncode, done.stdout) == (101, "")
+    assert "error: the library can't be built" in done.stderr
+    assert list(endings.runs.iterdir()) == []
+
+
+def test_words_that_cargo_rejects(endings: FrontEnd) -> None:
+    done = endings.run("test", "--", "--no-such-option")
+    assert (done.returncode, done.stdout) == (1, "")
+    assert "unexpected argument '--no-such-option'" in done.stderr
+
+
+@pytest.mark.parametrize(
+    ("configuration", "variable", "said"),
+    [
+        ('[target.x86_64-unknown-linux-gnu]\nrunner = ["RUNNER", "a list"]', None, "a list"),
+        ('[target.x86_64-unknown-linux-gnu]\nrunner = "RUNNER text"', None, "text"),
+        ('[target.\'cfg(unix)\']\nrunner = ["RUNNER", "cfg"]', None, "cfg"),
+        ("[target.'cfg(windows)']\nrunner = \"none\"", "RUNNER variable", "variable"),
+        ('[target.x86_64-unknown-linux-gnu]\nrunner = "none"', "RUNNER above", "above"),
+        ('[target.x86_64-unknown-linux-gnu]\nrunner = ["./bin/runner", "near"]', None, "near"),
+    ],
+)
+def test_the_users_own_runner(
+    endings: FrontEnd,
+    tmp_path: pathlib.Path,
+    configuration: str,
+    variable: str | None,
+    said: str,
+) -> None:
+    """It runs each test as it does without the front end."""
+    folder = tmp_path / "workspace"
+    shutil.copytree(endings.folder, folder, ignore=BUILT)
+    runner = folder / "bin/runner"
+    runner.parent.mkdir()
+    runner.write_text(RUNNER)
+    runner.chmod(0o755)
+    (folder / ".cargo").mkdir()
+    (folder / ".cargo/config.toml").write_text(configuration.replace("RUNNER", str(runner)))
+    through = tmp_path / "through"
+    own = {"THROUGH": str(through), "CARGO_TARGET_DIR": str(endings.folder / "target")}
+    if variable:
+        own[VARIABLE] = variable.replace("RUNNER", str(runner))
+    chained = FrontEnd(folder, {**endings.environment, **own})
+    done = chained.run("test", "--", "--lib", "--", "stable")
+    assert done.returncode == 0, done.stderr
+    assert "1 passed" in done.stdout
+    assert set(through.read_text().splitlines()) == {f"through {said}"}
+
+
+def test_what_failed_runs_again(endings: FrontEnd) -> None:
+    """The tests and the targets that failed by their names run again, and no other."""
+    words = ["-p", "ways", "--test", "ends", "--doc"][:4]
+    endings.run("test", "--", *words, "--", "exits", "--skip", "101")
+    done = endings.run("again")
+    assert done.returncode == 101
+    run = last_run(endings)
+    assert names_of(run) == {"ways::ends": ["exits_with_0", "exits_with_7"]}
+    assert run.cli_args[:2] == ("rezovamy-runs", "again")
+
+
+def test_doctests_run_again(endings: FrontEnd) -> None:
+    assert endings.run("test", "--", "--doc").returncode == 101
+    assert endings.run("again").returncode == 101
+    assert names_of(last_run(endings)) == {"ways::doc/ways": ["ways"]}
+
+
+def test_failures_are_told_where_nothing_can_be_recorded(endings: FrontEnd) -> None:
+    endings.environment["REZOVAMY"] = "/bin/false"
+    done = endings.run("test", "--", "--test", "ends", "--", "fails")
+    assert done.returncode == 101
+    assert "one is not two" in done.stderr
+    assert "the tests failed, and besides: " in done.stderr
+
+
+def test_a_killed_front_end_leaves_no_process(endings: FrontEnd) -> None:
+    """It is gone, and so is the test that ran."""
+    words = endings.words("test", "--", "--test", "ends", "-p", "ways", "--", "hangs")
+    with subprocess.Popen(
+        words, cwd=endings.folder, env=endings.environment, stderr=subprocess.DEVNULL
+    ) as process:
+        wait_until(lambda: processes("hangs") == 1)
+        process.send_signal(signal.SIGKILL)
+    wait_until(lambda: processes("hangs") == 0)
+
+
+def processes(test: str) -> int:
+    """Count the processes that run this test."""
+    found = 0
+    for path in pathlib.Path("/proc").glob("[0-9]*/cmdline"):
+        try:
+            words = path.read_bytes().split(b"\0")
+        except OSError:
+            continue
+        found += b"--exact" in words and test.encode() in words
+    return found
+
+
+def wait_until(is_so: object) -> None:
+    """Wait until something is so."""
+    assert callable(is_so)
+    until = time.monotonic() + 60
+    while not is_so():
+        assert time.monotonic() < until
+        time.sleep(0.02)
