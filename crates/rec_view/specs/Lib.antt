@@ -3,6 +3,7 @@ pub mod Counts
 pub mod Acts
 pub mod Tests
 pub mod Attempts
+pub mod AttemptPositions
 pub mod Extents
 pub mod Slices
 pub mod ShownGaps
