@@ -14,3 +14,5 @@ pub mod Stretches
 pub mod Examples
 pub mod Passing
 pub mod GapsShown
+pub mod GapRuns
+pub mod AllSlices

@@ -11,15 +11,16 @@ ghost use Rattle.rec_spans.specs.declared.spans.Span as spans;
 ghost use Rattle.rec_spans.specs.Kinds as kinds;
 ghost use Rattle.rec_spans.specs.Past.{TraceInput};
 ghost use Rattle.rec_spans.specs.Plain.{PlainEvent, plain};
-ghost use Rattle.rec_spans.specs.Positions.{Has, IsSpan, IsStretch};
+ghost use Rattle.rec_spans.specs.Positions.{Has, IsSlice, IsSpan, IsStretch};
 ghost use Rattle.rec_spans.specs.Refusals.{events_refusal};
+ghost use Rattle.rec_spans.specs.Times.{Window};
 ghost use Rattle.rec_view.specs.Acts as acts;
 ghost use Rattle.rec_view.specs.AttemptPositions.{IsAttempt, IsEnd, OfOneTest, at, starts_attempt};
 ghost use Rattle.rec_view.specs.Attempts.{end_of, starts_of};
 ghost use Rattle.rec_view.specs.Extents.{HasSpan, Lasts};
 ghost use Rattle.rec_view.specs.Laws.{InOrder, SlicesAddUp};
 ghost use Rattle.rec_view.specs.Open.{OneOpen, is_open, verdict_after};
-ghost use Rattle.rec_view.specs.Slices.{slices};
+ghost use Rattle.rec_view.specs.Slices.{IsPause, all_slices, pauses, slices};
 ghost use Rattle.rec_view.specs.Tests.{Place, opened, place, tests, verdict};
 ghost use Rattle.rec_view.specs.Verdicts.{is_passing, verdict_of_end};
 
@@ -105,6 +106,19 @@ pub fn attempts_as_spans<S: OutputSpec>()
 pub fn slices_are_stretches()
     ensures { (history : List TraceInput) (a z x y : ℕ) → a ≤ z → z ≤ length history
         → Has (slices history a z) (x, y) ↔ IsStretch history a z x y }
+{}
+
+/// States that the slices of what lasts from one position to another are exactly the longest
+/// stretches outside pauses, and the instants at a start and at an end in a pause.
+pub fn all_slices_are_slices()
+    ensures { (history : List TraceInput) (a z x y : ℕ) → a ≤ z → z ≤ length history
+        → Has (all_slices history a z) (x, y) ↔ IsSlice history a z x y }
+{}
+
+/// States that the pauses of a history are exactly the longest stretches of its gaps in a pause.
+pub fn pauses_are_windows()
+    ensures { (history : List TraceInput) (w : Window)
+        → Has (pauses history) (w.from, w.to) ↔ IsPause history w }
 {}
 
 /// States that a test that ends counts as passed for a rerun exactly where its verdict is passed or
