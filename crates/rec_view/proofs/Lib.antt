@@ -16,3 +16,4 @@ pub mod Passing
 pub mod GapsShown
 pub mod GapRuns
 pub mod AllSlices
+pub mod UnnamedSums

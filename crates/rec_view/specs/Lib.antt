@@ -1,5 +1,6 @@
 pub mod Verdicts
 pub mod Counts
+pub mod Unnamed
 pub mod Acts
 pub mod Tests
 pub mod Attempts
