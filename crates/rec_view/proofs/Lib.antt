@@ -3,6 +3,10 @@ pub mod Orders
 pub mod Slices
 pub mod Open
 pub mod Attempts
+pub mod AttemptPositions
+pub mod TestPositions
+pub mod OneTest
+pub mod AttemptSpans
 pub mod Rows
 pub mod Extents
 pub mod Walks
@@ -10,3 +14,6 @@ pub mod Stretches
 pub mod Examples
 pub mod Passing
 pub mod GapsShown
+pub mod GapRuns
+pub mod AllSlices
+pub mod UnnamedSums

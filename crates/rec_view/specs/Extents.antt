@@ -1,7 +1,9 @@
 -- How long a span lasts in any history, also in one that has no trace.
 use Rattle.std.specs.Option.{option_map_or}
 use Rattle.std.specs.Prelude.{◌≡◌, ◌<◌, ◌≤◌, ℕ, Bool, true, false, List, length, Some}
+use Rattle.rec_events.specs.declared.instances.OwnedTestInstanceId.{OwnedTestInstanceId}
 use Rattle.rec_spans.specs.declared.spans.Span.{Span}
+use Rattle.rec_spans.specs.declared.spans.SpanKey.TheVariants.{Test}
 use Rattle.rec_spans.specs.declared.spans.SpanKey.{SpanKey}
 use Rattle.rec_spans.specs.Keys.{key_eq}
 use Rattle.rec_spans.specs.Past.Change.{Start, Stop, Pause, Resume, Other}
@@ -25,3 +27,9 @@ pub record Lasts (history : List TraceInput) (a z : ℕ) (s : Span) : Type 0 whe
   pub cut : z < length history → option_map_or (cuts_key s.key) (change_at history z) false ≡ true
   pub first : (k : ℕ) → a < k → k < z
       → option_map_or (cuts_key s.key) (change_at history k) false ≡ false
+
+-- an attempt of a test starts at a, and its span lasts to z
+pub record HasSpan (history : List TraceInput) (t : OwnedTestInstanceId) (a z : ℕ) : Type 0 where
+  pub span : Span
+  pub key : span.key ≡ Test t
+  pub lasts : Lasts history a z span

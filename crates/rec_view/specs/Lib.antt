@@ -1,8 +1,10 @@
 pub mod Verdicts
 pub mod Counts
+pub mod Unnamed
 pub mod Acts
 pub mod Tests
 pub mod Attempts
+pub mod AttemptPositions
 pub mod Extents
 pub mod Slices
 pub mod ShownGaps

@@ -1,7 +1,7 @@
 -- The slices between two positions of any history, and their times.
 use Rattle.std.specs.Option.{unwrap_or}
-use Rattle.std.specs.Prelude.{◌-◌, ℕ, suc, zero, Bool, true, not, ℤ, ◌-ℤ◌, List, [], ◌∷◌, ◌++◌}
-use Rattle.std.specs.Prelude.{length, min, Option, Some, None, if◌then◌else◌}
+use Rattle.std.specs.Prelude.{◌-◌, ◌&&◌, ℕ, suc, zero, nat_lt, Bool, true, false, not, ℤ, ◌-ℤ◌}
+use Rattle.std.specs.Prelude.{List, [], ◌∷◌, ◌++◌, length, min, Option, Some, None, if◌then◌else◌}
 use Rattle.rec_spans.specs.Past.{TraceInput, is_paused}
 use Rattle.rec_spans.specs.Positions.{past_at}
 use Rattle.rec_spans.specs.Times.{IsWindow, Window, instant}
@@ -46,6 +46,25 @@ stretches passes held a (suc n) =
 -- the slices from a to z that have a length
 abbrev pub slices : List TraceInput → ℕ → ℕ → List (ℕ × ℕ)
 slices history a z = stretches (shown history) None a (z - a)
+
+-- whether the run is in a pause at an event
+abbrev pub in_pause : List TraceInput → ℕ → Bool
+in_pause history i = is_paused (past_at history i)
+
+abbrev pub instant_if : Bool → ℕ → List (ℕ × ℕ)
+instant_if true i = (i, i) ∷ []
+instant_if false i = []
+
+-- all slices from a to z: those that have a length, and the instants at a start and at an end in a
+-- pause
+abbrev pub all_slices : List TraceInput → ℕ → ℕ → List (ℕ × ℕ)
+all_slices history a z =
+    instant_if (in_pause history a) a
+    ++ slices history a z ++ instant_if (nat_lt z (length history) && in_pause history z) z
+
+-- the pauses of the whole history: the longest stretches of gaps in pauses
+abbrev pub pauses : List TraceInput → List (ℕ × ℕ)
+pauses history = stretches (λ j. not (shown history j)) None 0 (length history - 0)
 
 abbrev pub lasting : (ℕ → ℤ) → ℕ × ℕ → ℤ
 lasting t s = t s.1 -ℤ t s.0

@@ -1,6 +1,8 @@
 //! Laws of views, as clauses of functions that do nothing.
-ghost use Rattle.std.specs.Prelude.{◌≡◌, ◌↔◌, ◌≤◌, ◌<◌, ℕ, List, [], ◌∷◌, ◌++◌, None};
+ghost use Rattle.std.specs.Option.{unwrap_or};
+ghost use Rattle.std.specs.Prelude.{◌≡◌, ◌↔◌, ◌≤◌, ◌<◌, ℕ, List, [], ◌∷◌, ◌++◌, None, true};
 ghost use Rattle.std.specs.Prelude.{length, map, reverse};
+ghost use Rattle.rec_events.specs.declared.events.TestEventSummary.{TestEventSummary};
 ghost use Rattle.rec_events.specs.declared.instances.OwnedTestInstanceId.{OwnedTestInstanceId};
 ghost use Rattle.rec_events.specs.declared.statuses.ExecutionStatuses.{ExecutionStatuses};
 ghost use Rattle.rec_rerun.specs.Acts.{pass};
@@ -8,14 +10,17 @@ ghost use Rattle.rec_spans.specs.declared.settings.ChromeTraceGroupBy as group_b
 ghost use Rattle.rec_spans.specs.declared.spans.Span as spans;
 ghost use Rattle.rec_spans.specs.Kinds as kinds;
 ghost use Rattle.rec_spans.specs.Past.{TraceInput};
-ghost use Rattle.rec_spans.specs.Plain.{PlainEvent};
-ghost use Rattle.rec_spans.specs.Positions.{Has, IsSpan, IsStretch};
+ghost use Rattle.rec_spans.specs.Plain.{PlainEvent, plain};
+ghost use Rattle.rec_spans.specs.Positions.{Has, IsSlice, IsSpan, IsStretch};
 ghost use Rattle.rec_spans.specs.Refusals.{events_refusal};
+ghost use Rattle.rec_spans.specs.Times.{Window};
 ghost use Rattle.rec_view.specs.Acts as acts;
-ghost use Rattle.rec_view.specs.Extents.{Lasts};
+ghost use Rattle.rec_view.specs.AttemptPositions.{IsAttempt, IsEnd, OfOneTest, at, starts_attempt};
+ghost use Rattle.rec_view.specs.Attempts.{end_of, starts_of};
+ghost use Rattle.rec_view.specs.Extents.{HasSpan, Lasts};
 ghost use Rattle.rec_view.specs.Laws.{InOrder, SlicesAddUp};
 ghost use Rattle.rec_view.specs.Open.{OneOpen, is_open, verdict_after};
-ghost use Rattle.rec_view.specs.Slices.{slices};
+ghost use Rattle.rec_view.specs.Slices.{IsPause, all_slices, pauses, slices};
 ghost use Rattle.rec_view.specs.Tests.{Place, opened, place, tests, verdict};
 ghost use Rattle.rec_view.specs.Verdicts.{is_passing, verdict_of_end};
 
@@ -57,6 +62,26 @@ pub fn verdict_more()
         ≡ verdict_after act (is_open before p) p (verdict before p) }
 {}
 
+/// States that the attempts of a test are the starts of its name from its own start on. No event
+/// between starts the test again or ends it.
+pub fn attempts_by_position()
+    ensures { (all : List acts.Act) (p : Place) → Has (tests all) p → (k : ℕ)
+        → Has (starts_of all p) k ↔ IsAttempt all p k }
+{}
+
+/// States that each start and each further attempt is an attempt of exactly one test, which has its
+/// name.
+pub fn of_one_test()
+    ensures { (all : List acts.Act) (t : OwnedTestInstanceId) (k : ℕ)
+        → at (starts_attempt t) all k ≡ true → OfOneTest all t k }
+{}
+
+/// States that an attempt ends at the first later event that stops it or starts another one.
+pub fn attempt_ends()
+    ensures { (all : List acts.Act) (t : OwnedTestInstanceId) (k : ℕ)
+        → IsEnd all t k (end_of all t k) }
+{}
+
 /// States of a history of events that has a trace that what starts lasts as its span does: up to
 /// the first stop of its key.
 pub fn lasts_as_drawn()
@@ -66,11 +91,34 @@ pub fn lasts_as_drawn()
         → Lasts (kinds.history group events) a z s ↔ IsSpan (kinds.history group events) a z s }
 {}
 
+/// States of any events that the span of an attempt of a test lasts as the attempt does: from its
+/// start to its end, or behind the last event where it has none.
+pub fn attempts_as_spans<S: OutputSpec>()
+    ensures { (group : group_by.ChromeTraceGroupBy)
+        (events : List (TestEventSummary S S.ChildOutput)) (t : OwnedTestInstanceId) (k : ℕ)
+        → at (starts_attempt t) (acts.acts events) k ≡ true
+        → HasSpan (kinds.history group (map plain events)) t k
+        (unwrap_or (end_of (acts.acts events) t k) (length events)) }
+{}
+
 /// States that the slices between two positions of any history are exactly the longest stretches
 /// outside pauses.
 pub fn slices_are_stretches()
     ensures { (history : List TraceInput) (a z x y : ℕ) → a ≤ z → z ≤ length history
         → Has (slices history a z) (x, y) ↔ IsStretch history a z x y }
+{}
+
+/// States that the slices of what lasts from one position to another are exactly the longest
+/// stretches outside pauses, and the instants at a start and at an end in a pause.
+pub fn all_slices_are_slices()
+    ensures { (history : List TraceInput) (a z x y : ℕ) → a ≤ z → z ≤ length history
+        → Has (all_slices history a z) (x, y) ↔ IsSlice history a z x y }
+{}
+
+/// States that the pauses of a history are exactly the longest stretches of its gaps in a pause.
+pub fn pauses_are_windows()
+    ensures { (history : List TraceInput) (w : Window)
+        → Has (pauses history) (w.from, w.to) ↔ IsPause history w }
 {}
 
 /// States that a test that ends counts as passed for a rerun exactly where its verdict is passed or

@@ -7,6 +7,7 @@ mod counts;
 pub mod laws;
 mod shown_gaps;
 mod test_views;
+mod unnamed;
 mod verdicts;
 mod view;
 mod walk;

@@ -4,9 +4,11 @@ ghost use Rattle.rec_view.specs.Acts.{acts};
 ghost use Rattle.rec_view.specs.Counts.{AreCounts};
 ghost use Rattle.rec_view.specs.Rows.{rows, rows_of};
 ghost use Rattle.rec_view.specs.Tests.{verdicts};
+ghost use Rattle.rec_view.specs.Unnamed.{unnamed};
 
 use crate::counts::{Counts, counts_of};
 use crate::test_views::TestView;
+use crate::unnamed::unnamed_of;
 use crate::walk::walk_events;
 use rec_events::{Items, OutputSpec, TestEventSummary};
 use std::alloc::{AllocError, Global};
@@ -19,6 +21,8 @@ pub struct RunView {
     pub tests: Items<TestView>,
     /// How many tests have each verdict.
     pub counts: Counts,
+    /// How many tests the ends of runs count as not seen, and don't name.
+    pub unnamed: u128,
 }
 
 /// Tells the tests of a run by its events, which may be any in any order. An event opens a test
@@ -43,11 +47,13 @@ pub fn view_events<S: OutputSpec>(
 ) -> Result<RunView, AllocError>
     ensures tests { IfOk result (λ view. rows view.tests ≡ rows_of (acts events.now)) }
     ensures counts { IfOk result (λ view. AreCounts (verdicts (acts events.now)) view.counts) }
+    ensures unnamed { IfOk result (λ view. view.unnamed ≡ unnamed events.now) }
 {
     let walk = walk_events(alloc, events)?;
     let counts = counts_of(walk.tests.as_slice());
     Ok(RunView {
         tests: Items::new(walk.tests),
         counts,
+        unnamed: unnamed_of(events),
     })
 }

@@ -374,3 +374,36 @@ fn tests_are_counted_by_verdicts(rt: HostRuntime) -> Result<(), AllocError> {
     assert!(rt; counted(view.counts));
     Ok(())
 }
+
+/// The ends of runs, and how many tests they count and don't name.
+const UNNAMED: &[(&[Step], u128)] = &[
+    (&[], 0),
+    (&[Step::RunEnd(&["a", "b"])], 0),
+    (&[Step::RunEndOf(&["a"], 3)], 2),
+    (&[Step::RunEndOf(&["a"], 3), Step::RunEndOf(&[], 4)], 6),
+    // it names more than it counts
+    (&[Step::RunEndOf(&["a", "b"], 1)], 0),
+    // the sum is past the largest count
+    (
+        &[
+            Step::RunEndOf(&[], 18_446_744_073_709_551_615),
+            Step::RunEndOf(&[], 1),
+        ],
+        18_446_744_073_709_551_616,
+    ),
+];
+
+fn are_unnamed(alloc: Global) -> Result<bool, AllocError> {
+    for (steps, want) in UNNAMED {
+        if view_of(alloc, steps)?.unnamed != *want {
+            return Ok(false);
+        }
+    }
+    Ok(true)
+}
+
+#[test]
+fn tests_without_names_are_counted(rt: HostRuntime) -> Result<(), AllocError> {
+    assert!(rt; are_unnamed(rt.alloc())?);
+    Ok(())
+}

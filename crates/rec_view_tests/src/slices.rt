@@ -60,15 +60,29 @@ const CASES: &[Case] = &[
         &[Step::Start("a"), Step::Pause, Step::End("a", "p")],
         0,
         2,
-        &[(0, 1)],
+        &[(0, 1), (2, 2)],
     ),
     // an attempt that starts in a pause, and ends in it
     (
         &[Step::Pause, Step::Start("a"), Step::End("a", "p")],
         1,
         2,
-        &[],
+        &[(1, 1), (2, 2)],
     ),
+    // one that starts in a pause, and ends after it
+    (
+        &[
+            Step::Pause,
+            Step::Start("a"),
+            Step::Continue,
+            Step::End("a", "p"),
+        ],
+        1,
+        3,
+        &[(1, 1), (2, 3)],
+    ),
+    // one that has no end, in a pause at the end of the events
+    (&[Step::Start("a"), Step::Pause], 0, 2, &[(0, 1)]),
     // a continuation that continues nothing
     (
         &[Step::Start("a"), Step::Continue, Step::End("a", "p")],
@@ -113,6 +127,58 @@ fn are_all_cut(alloc: Global) -> Result<bool, AllocError> {
         }
     }
     Ok(true)
+}
+
+/// The events of a run, and the positions of its pauses.
+type Pauses = (&'static [Step], &'static [(usize, usize)]);
+
+const PAUSES: &[Pauses] = &[
+    // no event
+    (&[], &[]),
+    // a pause that ends
+    (
+        &[
+            Step::Start("a"),
+            Step::Pause,
+            Step::Continue,
+            Step::End("a", "p"),
+        ],
+        &[(1, 2)],
+    ),
+    // one that doesn't
+    (
+        &[Step::Pause, Step::Start("a"), Step::End("a", "p")],
+        &[(0, 3)],
+    ),
+    // a pause in a pause is no other one
+    (
+        &[Step::Pause, Step::Pause, Step::Continue, Step::Start("a")],
+        &[(0, 2)],
+    ),
+    // a continuation that continues nothing
+    (&[Step::Start("a"), Step::Continue], &[]),
+    // two pauses, the second one at the last event
+    (
+        &[Step::Pause, Step::Continue, Step::Start("a"), Step::Pause],
+        &[(0, 1), (3, 4)],
+    ),
+];
+
+fn are_all_listed(alloc: Global) -> Result<bool, AllocError> {
+    for (steps, want) in PAUSES {
+        let gaps = gaps_of(alloc, steps)?;
+        let pauses = gaps.pauses(alloc)?;
+        if !are_slices(pauses.as_slice(), want) {
+            return Ok(false);
+        }
+    }
+    Ok(true)
+}
+
+#[test]
+fn pauses_are_listed(rt: HostRuntime) -> Result<(), AllocError> {
+    assert!(rt; are_all_listed(rt.alloc())?);
+    Ok(())
 }
 
 #[test]

@@ -27,6 +27,8 @@ pub(crate) enum Step {
     Skip(&'static str),
     /// The end of a run, which didn't see these tests.
     RunEnd(&'static [&'static str]),
+    /// The end of a run, which names these tests as not seen, and counts so many.
+    RunEndOf(&'static [&'static str], usize),
     SubRun,
     Pause,
     Continue,
@@ -193,10 +195,11 @@ fn skipped(alloc: Global, name: &str) -> Result<TestEventKindSummary<LiveSpec>, 
 fn run_ended(
     alloc: Global,
     names: &[&'static str],
+    total_not_seen: usize,
 ) -> Result<TestEventKindSummary<LiveSpec>, AllocError> {
     let summary = TestsNotSeenSummary {
         not_seen: tests(alloc, names)?,
-        total_not_seen: names.len(),
+        total_not_seen,
     };
     Ok(TestEventKindSummary::Core(CoreEventKind::RunFinished {
         run_id: ReportUuid::new(Uuid::nil()),
@@ -240,7 +243,8 @@ fn kind(alloc: Global, step: Step) -> Result<TestEventKindSummary<LiveSpec>, All
         Step::End(name, letters) => ended(alloc, name, letters, FlakyResult::Pass),
         Step::StrictEnd(name, letters) => ended(alloc, name, letters, FlakyResult::Fail),
         Step::Skip(name) => skipped(alloc, name),
-        Step::RunEnd(names) => run_ended(alloc, names),
+        Step::RunEnd(names) => run_ended(alloc, names, names.len()),
+        Step::RunEndOf(names, count) => run_ended(alloc, names, count),
         Step::SubRun => Ok(sub_run_started()),
         Step::Pause => Ok(paused()),
         Step::Continue => Ok(continued()),

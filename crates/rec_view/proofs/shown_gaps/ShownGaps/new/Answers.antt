@@ -1,7 +1,8 @@
-use Rattle.std.proofs.Common.{◌≡◌, Bool, List, Some, map}
-use Rattle.std.proofs.Common.{slice_get}
-use Rattle.std.proofs.Common.{add-one, false, suc, subst, sym}
+use Rattle.std.proofs.Common.{◌≡◌, ◌∙◌, Bool, List, Some, add-one, arith, false, length, map}
+use Rattle.std.proofs.Common.{slice_get, suc, subst, sym}
+use Rattle.std.proofs.lemmas.List.{length-map}
 use Rattle.rec_spans.specs.Plain.{plain}
+use Rattle.rec_view.proofs.GapRuns.{gaps_kept}
 use Rattle.rec_view.proofs.GapsShown.{Kept, got, kept_more, kept_none, some_mapped}
 use Rattle.rec_view.proofs.shown_gaps.ShownGaps.new.Goals as goal
 
@@ -24,3 +25,14 @@ loop-event-preserved g c =
     (sym c.in_ok-push.ensures.items)
     (kept_more (map plain events) i (plain event) c.loop-event.in_pause after
     c.loop-event.shown.items here c.pause_after-in_pause.ensures c.loop-event.invariant))
+
+pub returns : goal.returns
+returns g c =
+    let events = c.args.events.now in
+    let end = c.loop-event.auto.event-index-end in
+    let test = c.loop-event-test.false in
+    let many : c.loop-event.event-index ≡ length events = omega (arith, end, test) in
+    gaps_kept (map plain events) c.loop-event.event-index c.loop-event.in_pause
+    c.as_slice.result.now (record { shown = c.loop-event.shown; ends = c.in_ok-ends.ends })
+    (many ∙ sym (length-map events plain)) c.loop-event.invariant c.as_slice.ensures.value
+    c.in_ok-ends.ensures

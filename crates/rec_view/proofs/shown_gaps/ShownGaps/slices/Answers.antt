@@ -1,24 +1,20 @@
-use Rattle.std.proofs.Common.{◌≡◌, ◌<◌, ◌+◌, ◌-◌, add-one, arith, length, suc, subst, sym}
-use Rattle.rec_view.proofs.GapsShown.{gap_is, passed}
+use Rattle.std.proofs.Common.{◌&&◌, ◌-◌, length, nat_lt, subst, true}
+use Rattle.rec_view.proofs.GapRuns.{all_cut}
 use Rattle.rec_view.proofs.shown_gaps.ShownGaps.slices.Goals as goal
-use Rattle.rec_view.specs.ShownGaps.{Becomes}
-use Rattle.rec_view.specs.Slices.{shown, slices}
+use Rattle.rec_view.specs.ShownGaps.{Adds, passes_for}
+use Rattle.rec_view.specs.Slices.{in_pause, instant_if}
 
-pub loop-at-preserved : goal.loop-at-preserved
-loop-at-preserved c = λ history are.
-    let gaps = c.args.self.now.shown.items in
-    let at = c.loop-at.at in
+pub returns : goal.returns
+returns c = λ history are.
+    let from = c.args.from in
     let to = c.args.to in
-    let less : at < to = c.loop-at-test.true in
-    let within : at < length gaps = (let w = c.requires.within in omega (arith, less, w)) in
-    let rest : to - at ≡ suc (to - (at + 1)) = omega (arith, less) in
-    let is = gap_is history gaps at c.index.result.now are within c.index.ensures in
-    subst
-    (λ n. Becomes (shown history) c.pass.new.self n (to - (at + 1))
-    (slices history c.args.from to))
-    (sym (add-one at))
-    (passed (shown history) c.loop-at.cutter c.pass.new.self at (to - (at + 1))
-    (slices history c.args.from to) c.index.result.now is c.in_ok-pass.ensures.ok
-    (subst
-    (λ n. Becomes (shown history) c.loop-at.cutter at n (slices history c.args.from to)) rest
-    (c.loop-at.invariant history are)))
+    all_cut (passes_for true history) c.new-cutter.result c.add_instant.new.self
+    c.in_ok-cutter.cutter c.add_instant-2.new.self from (to - from)
+    (instant_if (in_pause history from) from)
+    (instant_if (nat_lt to (length history) && in_pause history to) to)
+    c.new-cutter.ensures.slices c.new-cutter.ensures.held
+    (subst (λ b. Adds (instant_if b from) c.new-cutter.result c.add_instant.new.self)
+    (c.in_pause.ensures history are) c.in_ok-add_instant.ensures.ok)
+    (c.in_ok-cutter.ensures history are)
+    (subst (λ b. Adds (instant_if b to) c.in_ok-cutter.cutter c.add_instant-2.new.self)
+    (c.stops_in_pause.ensures history are) c.in_ok-add_instant-2.ensures.ok)
