@@ -31,6 +31,15 @@ fn asked(command: Command<'_>) -> Option<(&'static str, &str, Settings)> {
         } => Some(("sample", bundle, settings)),
         Command::Upgrade { bundle, settings } => Some(("upgrade", bundle, settings)),
         Command::Salvage { bundle, settings } => Some(("salvage", bundle, settings)),
+        Command::Live {
+            directory,
+            settings,
+        } => Some(("live", directory, settings)),
+        Command::Pack {
+            directory: _,
+            bundle,
+            settings,
+        } => Some(("pack", bundle, settings)),
         Command::Help | Command::Version => None,
     }
 }
@@ -109,6 +118,13 @@ upgrade --read-limit --session-limit 3|--read-limit|\
 upgrade --read-limit 10485760 268435456 3 Binary Json
 salvage b|b|salvage b 10485760 268435456 268435456 Binary Json
 salvage b --session-limit 3 --read-limit 2|b|salvage b 10485760 2 3 Binary Json
+live d|none|live d 10485760 268435456 268435456 Binary Json
+live d --session-limit 3 --max-output 1|none|live d 1 268435456 3 Binary Json
+pack d b|b|pack b 10485760 268435456 268435456 Binary Json
+pack d b --session-limit 3|b|pack b 10485760 268435456 3 Binary Json
+live d --read-limit 2|none|a fault
+pack d|none|a fault
+pack d b --max-output 1|none|a fault
 --help|none|a text
 --version|none|a text
 rec b|none|a fault
