@@ -106,6 +106,13 @@ def test_a_folder_that_is_there(program: Path, tmp_path: Path) -> None:
     assert not list((tmp_path / "d").iterdir())
 
 
+def test_a_run_without_events(program: Path, tmp_path: Path) -> None:
+    """It has a log, which is empty."""
+    assert run(program, tmp_path, "live d", lines(HEAD)).status == 0
+    assert (tmp_path / "d/run.log.zst").read_bytes() == b""
+    assert run(program, tmp_path, "pack d b") == Done(0, b"events=0 outputs=0\n", b"")
+
+
 def test_outputs_are_cut(program: Path, tmp_path: Path) -> None:
     """What `record` makes of a session is what `pack` makes of the same one."""
     run(program, tmp_path, "record recorded --max-output 2", SMALL_SESSION)

@@ -15,7 +15,7 @@ use rec_program::{
     FAULTY_WORDS, OUT_OF_MEMORY, RunFiles, Streams, bundle_path, directory_path, run_program,
     write_fault,
 };
-use run_file::RunFileSink;
+use run_file::{NewFolder, RunFileSink};
 use std::alloc::{AllocError, Global};
 use std::io::ErrorKind;
 use std::process::ExitCode;
@@ -75,8 +75,12 @@ fn run_files<'r, R: AllocGlobal + Files>(
     let manifest = join(alloc, directory.as_str(), PORTABLE_MANIFEST_FILE_NAME)?;
     let store = join(alloc, directory.as_str(), STORE_ZIP_FILE_NAME)?;
     let log = join(alloc, directory.as_str(), RUN_LOG_FILE_NAME)?;
+    let folder = NewFolder {
+        log: join(alloc, directory.as_str(), RUN_LOG_FILE_NAME)?,
+        path: directory,
+    };
     Ok(RunFiles {
-        manifest: RunFileSink::new(rt, Some(directory), manifest),
+        manifest: RunFileSink::new(rt, Some(folder), manifest),
         store: RunFileSink::new(rt, None, store),
         log: RunFileSink::new(rt, None, log),
     })

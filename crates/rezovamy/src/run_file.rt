@@ -4,23 +4,30 @@ ghost use Rattle.std.specs.Prelude.{◌≡◌, ◌≤◌, ◌<◌, length, IfOk,
 ghost use Rattle.rec_container.specs.Causes.{Counts, HasCause};
 
 use rec_container::{FileSink, Sink, SinkFailed};
-use std::fs;
 use std::rt::Files;
+use std::{fs, io};
+
+/// Names a folder to make, and the log in it.
+#[derive(Drop)]
+pub(crate) struct NewFolder {
+    pub(crate) path: String,
+    pub(crate) log: String,
+}
 
 /// Writes to a file what it takes, as [`FileSink`] does. Where it was told a folder, the first
-/// write makes that folder. A folder that is there is a fault.
+/// write makes that folder with an empty log, so that a run without events has one too. A folder
+/// that is there is a fault.
 #[derive(Drop)]
 pub(crate) struct RunFileSink<'r, R: Files> {
     rt: &'r R,
-    /// The folder to make.
-    folder: Option<String>,
+    folder: Option<NewFolder>,
     file: FileSink<'r, R>,
     faults: u64,
 }
 
 impl<'r, R: Files> RunFileSink<'r, R> {
     /// Makes a sink into the file at `path`, which makes `folder` first where there is one.
-    pub(crate) fn new(rt: &'r R, folder: Option<String>, path: String) -> RunFileSink<'r, R> {
+    pub(crate) fn new(rt: &'r R, folder: Option<NewFolder>, path: String) -> RunFileSink<'r, R> {
         RunFileSink {
             rt,
             folder,
@@ -36,13 +43,20 @@ impl<'r, R: Files> RunFileSink<'r, R> {
         ensures faults { self.new.faults ≡ self.old.faults }
     {
         if let Some(folder) = &self.folder {
-            if fs::create_dir(self.rt, folder.as_str()).is_err() {
+            if make_folder(self.rt, folder).is_err() {
                 return None;
             }
         }
         self.folder = None;
         self.file.write(piece).ok()
     }
+}
+
+/// Makes a folder with an empty log.
+fn make_folder<R: Files>(rt: &R, folder: &NewFolder) -> io::Result<()> {
+    fs::create_dir(rt, folder.path.as_str())?;
+    fs::create(rt, folder.log.as_str())?;
+    Ok(())
 }
 
 impl<R: Files> Sink for RunFileSink<'_, R> {
