@@ -192,6 +192,16 @@ REFUSED = [
     ("report --message-format json", "UnknownOption at=1"),
     ("info --message-format json", "UnknownOption at=1"),
     ("trace --group-by json", "BadValue at=2"),
+    ("live", "MissingPositional at=1"),
+    ("live d --read-limit 1", "UnknownOption at=2"),
+    ("live d --group-by slot", "UnknownOption at=2"),
+    ("live d --max-output", "MissingValue at=3"),
+    ("live d --max-output x", "BadValue at=3"),
+    ("pack", "MissingPositional at=1"),
+    ("pack d", "MissingPositional at=2"),
+    ("pack d b --max-output 1", "UnknownOption at=3"),
+    ("pack d b --read-limit 1", "UnknownOption at=3"),
+    ("pack d b --session-limit 1 --session-limit 1", "RepeatedOption at=5"),
 ]
 
 VERSION = b"""\
@@ -212,6 +222,8 @@ Usage: rezovamy record BUNDLE [OPTION VALUE]..
        rezovamy sample N BUNDLE [OPTION VALUE]..
        rezovamy upgrade BUNDLE [OPTION VALUE]..
        rezovamy salvage BUNDLE [OPTION VALUE]..
+       rezovamy live DIR [OPTION VALUE]..
+       rezovamy pack DIR BUNDLE [OPTION VALUE]..
 
 record reads the session of a test run from standard input, and writes it into
 the file BUNDLE, a portable recording. Its trace, a timeline for trace viewers,
@@ -234,17 +246,24 @@ was stopped, and writes what is whole in it into the file BUNDLE: the metadata,
 the events up to the first that isn't there with all its outputs, and these
 outputs. It prints how many events and outputs were written.
 
+live records a run while it goes on. It makes the folder DIR, and reads the
+session from standard input line by line. It keeps each event in DIR, and then
+prints accepted=N, the number of events so far. What was accepted is there even
+if the program is killed. pack writes the bundle of such a folder into the file
+BUNDLE, of a run that was stopped as salvage does. Standard input has the head
+that the run ended with, or nothing. It prints how many events and outputs were
+written, and stopped if the run had no end.
+
 Options, each at most once, with a value after it; limits are in bytes:
   --group-by        of record, trace and sample: binary draws a process for
                     each test binary, and slot one process for all (binary)
   --message-format  of record, trace and sample: json writes the trace in one
                     line, and json-pretty over several (json)
-  --max-output      of record and sample: the most of an output that is kept
-                    whole (10485760)
-  --read-limit      the most of the manifest, of the log and of an entry of the
-                    store (268435456)
-  --session-limit   the most of the session or the bundle that is read
-                    (268435456)
+  --max-output      of record, sample and live: the most of an output that is
+                    kept whole (10485760)
+  --read-limit      of all but live and pack: the most of the manifest, of the
+                    log and of an entry of the store (268435456)
+  --session-limit   the most of standard input that is read (268435456)
   --output          of replay alone: load reads the outputs of tests, and skip
                     leaves them out (load)
 
@@ -252,15 +271,16 @@ Other words, each of them alone:
   --help     prints this text
   --version  prints the version of the program and of its formats
 
-The status is 0 on success, 2 for faulty words, 3 if standard input can't be
-read, 4 if it is too long, 5 for a faulty line, 6 for other bytes under the
-name of an output, 7 for what is above the read limit, 8 for an event that
-needs what isn't open, starts what is, or takes a slot that is held, 9 for a
-number out of range, 10 if the bundle can't be written, 11 if standard output
-fails, 12 for a bundle that is damaged, incomplete or of another version, 13
-for an event that can't be replayed or reported, 14 for a log of which slots
-can't tell the use, 15 for a store of which nothing can be salvaged, and 70 if
-memory runs out.
+The status is 0 on success, 2 for faulty words, 3 if standard input or DIR
+can't be read, 4 if standard input is too long, 5 for a faulty line or the head
+of another run, 6 for other bytes under the name of an output, 7 for what is
+above the read limit, 8 for an event that needs what isn't open, starts what
+is, or takes a slot that is held, 9 for a number out of range, 10 if the bundle
+or DIR can't be written, 11 if standard output fails, 12 for a bundle or a
+manifest that is damaged, incomplete or of another version, 13 for an event
+that can't be replayed or reported, 14 for a log of which slots can't tell the
+use, 15 for a store of which nothing can be salvaged, and 70 if memory runs
+out.
 With a status other than 0, a line on standard error names the cause.
 """
 

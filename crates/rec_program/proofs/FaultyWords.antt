@@ -69,9 +69,9 @@ module _ {S B F D T G : Type 0} (o : Objects S B F D T G) (status : ℕ) where
   asks number (salvaging path settings) (inl (s, shows, inr f)) = above 10 (omega arith) f.3.0
   asks number (salvaging path settings) (inr r) =
       above (refusal_status r.0) (refusal_above r.0) r.4.0
-  asks number (living path settings) (inl r, kept) = zeroed r.2
-  asks number (living path settings) (inr r, kept) =
-      above (live_status r.0) (live_above r.0) r.2.0
+  asks number (living path settings) ((Ok count, lives, told), kept) = zeroed told.0
+  asks number (living path settings) ((Err e, lives, told), kept) =
+      above (live_status e) (live_above e) told.0
   asks number (packing directory path settings) (inl (p, packs, inl t), kept) =
       prints (packed_line p) t
   asks number (packing directory path settings) (inl (p, packs, inr t), kept) =

@@ -2,6 +2,7 @@ pub mod AcceptedBytes
 pub mod BundlesShown
 pub mod Commands
 pub mod FaultyWords
+pub mod LivesOn
 pub mod LogTraced
 pub mod Promised
 pub mod RecordedDrawn

@@ -1,5 +1,5 @@
 -- That the program keeps its promises of each command.
-use Rattle.std.proofs.Common.{◌≡◌, ◌⊎◌, inl, inr, ℕ, ◌≤◌, List, length, Some, Result, Ok}
+use Rattle.std.proofs.Common.{◌≡◌, ◌⊎◌, inl, inr, ℕ, ◌≤◌, List, length, Some, Result, Ok, Err}
 use Rattle.std.proofs.Common.{sym, ap, subst, ◌∙◌, arith}
 use Rattle.rec_container.specs.Container.{Entry}
 use Rattle.rec_format.specs.declared.manifest.PortableManifest.{PortableManifest}
@@ -117,9 +117,10 @@ module _ {S B F D T G : Type 0} (o : Objects S B F D T G) (status : ℕ) where
       salvaged o.source.left o.source.faults o.bundle.taken o.bundle.faults o.out.taken
       o.out.faults o.diag.taken o.diag.faults settings status o.s0 o.s1 o.b0 o.b1 o.o0 o.o1 o.d0
       o.d1 zeroed runs
-  succeeds number (living path settings) zeroed (inl r, kept) = (r.1.all, r.1.kept)
-  succeeds number (living path settings) zeroed (inr r, kept) =
-      absurd (let above = live_above r.0 in let is = r.2.0 in omega (arith, above, is, zeroed))
+  succeeds number (living path settings) zeroed ((Ok count, lives, told), kept) =
+      (lives.all, lives.kept)
+  succeeds number (living path settings) zeroed ((Err e, lives, told), kept) =
+      absurd (let above = live_above e in let is = told.0 in omega (arith, above, is, zeroed))
   succeeds number (packing directory path settings) zeroed (inl (p, packs, inl (inl t)), kept) =
       (p, packs, t.1)
   succeeds number (packing directory path settings) zeroed (inl (p, packs, inl (inr t)), kept) =
@@ -142,8 +143,7 @@ module _ {S B F D T G : Type 0} (o : Objects S B F D T G) (status : ℕ) where
       not_salvaged o.source.left o.source.faults o.bundle.taken o.bundle.faults o.out.taken
       o.out.faults o.diag.taken o.diag.faults settings status o.s0 o.s1 o.b0 o.b1 o.o0 o.o1 o.d0
       o.d1 other runs
-  stops number (living path settings) other (inl r, kept) = r.1.kept
-  stops number (living path settings) other (inr r, kept) = r.1.kept
+  stops number (living path settings) other ((r, lives, told), kept) = lives.kept
   stops number (packing directory path settings) other (inl (p, packs, inl (inl t)), kept) =
       absurd (other t.0)
   stops number (packing directory path settings) other (inl (p, packs, inl (inr t)), kept) =

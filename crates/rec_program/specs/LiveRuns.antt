@@ -1,11 +1,14 @@
 -- What a recording that goes on leaves in its files.
 use Rattle.std.specs.Io.KnownBytes.{Appends}
-use Rattle.std.specs.Prelude.{◌≡◌, ◌+◌, ℕ, List, [], length, Option, Some, Result, IfOk}
+use Rattle.std.specs.Prelude.{◌≡◌, ◌+◌, ℕ, List, [], length, Option, Some, Result, Ok, IfOk, ⊤}
+use Rattle.rec_errors.specs.declared.words_error.WordsError.{WordsError}
 use Rattle.rec_live_recording.specs.Acknowledgements.{count_lines}
 use Rattle.rec_live_recording.specs.declared.errors.LiveError.{LiveError}
 use Rattle.rec_live_recording.specs.declared.live.RunFiles.{RunFiles}
 use Rattle.rec_live_recording.specs.Live.{Keeps}
 use Rattle.rec_live_recording.specs.Session.{events_after_head}
+use Rattle.rec_words.specs.declared.words.Command.TheVariants.{Live}
+use Rattle.rec_words.specs.declared.words.Command.{Command}
 
 module _ {S F T : Type 0} (left : S → Option (List ℕ)) (taken : F → Option (List ℕ))
     (out_taken : T → Option (List ℕ)) (number : List ℕ → ℕ) (most : ℕ) (s0 : S)
@@ -32,3 +35,8 @@ module _ {S F T : Type 0} (left : S → Option (List ℕ)) (taken : F → Option
   pub record Lives (result : Result ℕ LiveError) : Type 0 where
     pub kept : KeepsAcknowledged
     pub all : IfOk result (λ count. AcknowledgesAll)
+
+-- the words ask for such a recording
+abbrev pub IsLive : Result Command WordsError → Type 0
+IsLive (Ok (Live directory settings)) = ⊤
+IsLive read = ⊥

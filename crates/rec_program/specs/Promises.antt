@@ -113,7 +113,7 @@ module _ {S B F D T G : Type 0} (o : Objects S B F D T G) where
   -- What another status says of the bundle's sink: of an upgrade, that it is as it was, or the
   -- status is 10 and it took a proper prefix; of a salvage the same, or the status is 11 and it
   -- took the whole bundle. Of a recording that goes on, that its files hold the events that were
-  -- acknowledged. Of a directory that is packed, that no file has changed, but the temporary one; or
+  -- acknowledged. Of a directory that is packed, that no file has changed but the temporary one; or
   -- the status is 11 or 70, and the bundle stands there whole
   abbrev pub Stops : (List ℕ → ℕ) → Asked → ℕ → Type 0
   Stops number (upgrading path settings) status =

@@ -160,17 +160,23 @@ module _ {S B T G : Type 0} (left : S → Option (List ℕ)) (source_faults : S 
       source_faults settings.session_limit s0 s1 e × (b1 ≡ b0) × (o1 ≡ o0)
       × Refuses refusal_shown refusal_status diag_taken diag_faults e status d0 d1)
 
+module _ {G : Type 0} (diag_taken : G → Option (List ℕ)) (diag_faults : G → ℕ) where
+  -- a recording that goes on was whole, and nothing is reported; or the cause is the status and is
+  -- reported
+  abbrev pub TellsEnd : Result ℕ LiveError → ℕ → G → G → Type 0
+  TellsEnd (Ok count) status d0 d1 = (status ≡ 0) × (d1 ≡ d0)
+  TellsEnd (Err e) status d0 d1 =
+      Refuses live_shown live_status diag_taken diag_faults e status d0 d1
+
 module _ {S F T G : Type 0} (left : S → Option (List ℕ)) (file_taken : F → Option (List ℕ))
     (out_taken : T → Option (List ℕ)) (diag_taken : G → Option (List ℕ)) (diag_faults : G → ℕ)
     (number : List ℕ → ℕ) where
-  -- the session was recorded into the files while it went on, and nothing is reported; or it
-  -- wasn't to its end, and the cause is the status and is reported
+  -- the session was recorded into the files while it went on, to its end or not
   abbrev pub RunsLive : ℕ → ℕ → S → RunFiles F F F → RunFiles F F F → T → T → G → G → Type 0
   RunsLive most status s0 f0 f1 o0 o1 d0 d1 =
-      ((count : ℕ) × Lives left file_taken out_taken number most s0 f0 f1 o0 o1 (Ok count)
-      × (status ≡ 0) × (d1 ≡ d0))
-      ⊎ ((e : LiveError) × Lives left file_taken out_taken number most s0 f0 f1 o0 o1 (Err e)
-      × Refuses live_shown live_status diag_taken diag_faults e status d0 d1)
+      (result : Result ℕ LiveError)
+      × Lives left file_taken out_taken number most s0 f0 f1 o0 o1 result
+      × TellsEnd diag_taken diag_faults result status d0 d1
 
 module _ {T G : Type 0} (out_taken : T → Option (List ℕ)) (out_faults : T → ℕ)
     (diag_taken : G → Option (List ℕ)) (diag_faults : G → ℕ) where

@@ -1,11 +1,11 @@
 //! A session that is recorded while its run goes on.
 ghost use Rattle.rec_store.specs.Namer.{sha256_number};
-ghost use Rattle.rec_program.specs.Running.{RunsLive};
+ghost use Rattle.rec_program.specs.Running.{RunsLive, TellsEnd};
 
 use rec_container::{Sink, Source};
 use rec_export::Settings;
 use rec_faults::{SUCCESS, refuse};
-use rec_live_recording::{LineReader, LiveEnd, RunFiles, record_live};
+use rec_live_recording::{LineReader, LiveEnd, LiveError, RunFiles, record_live};
 use rec_store::Sha256Namer;
 use std::alloc::Global;
 
@@ -41,13 +41,20 @@ pub(crate) fn live<S: Source, F: Sink, T: Sink, G: Sink>(
         settings.max_output,
         out,
     );
-    let status = match result {
-        Ok(_) => SUCCESS,
-        Err(error) => refuse(error, diag),
-    };
+    let status = tell_end(result, diag);
     LiveRun {
         status,
         source: lines.into_source(),
         files,
+    }
+}
+
+/// Returns the status of a recording, and reports why it wasn't whole.
+fn tell_end<G: Sink>(ended: Result<u64, LiveError>, diag: &mut G) -> u8
+    ensures { TellsEnd G.taken G.faults ended result diag.old diag.new }
+{
+    match ended {
+        Ok(_) => SUCCESS,
+        Err(error) => refuse(error, diag),
     }
 }

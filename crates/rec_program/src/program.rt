@@ -1,16 +1,19 @@
 //! What the program does.
 ghost use Rattle.std.specs.Io.KnownBytes.{Appends};
 ghost use Rattle.std.specs.Prelude.{◌≡◌, ◌↔◌, ◌≤◌, ◌⊎◌, ℕ, List, length};
-ghost use Rattle.std.specs.Prelude.{Some, Ok, IsErr, string_bytes};
+ghost use Rattle.std.specs.Prelude.{Some, Ok, IsErr, IfOk, Result, string_bytes};
 ghost use Rattle.rec_container.specs.Causes.{Rose};
 ghost use Rattle.rec_store.specs.Namer.{sha256_number};
 ghost use Rattle.rec_store.specs.Reading.{RunRecord};
 ghost use Rattle.rec_portable.specs.Upgrades.{IsUpgradable};
+ghost use Rattle.rec_errors.specs.declared.words_error.WordsError.{WordsError};
 ghost use Rattle.rec_sample.specs.Session.{sample_session};
 ghost use Rattle.rec_export.specs.Bundle.{AreOf};
 ghost use Rattle.rec_export.specs.declared.settings.Settings.{Settings};
-ghost use Rattle.rec_words.specs.Words.{Asked, command, texts, tracing, upgrading};
+ghost use Rattle.rec_words.specs.Words.{Asked, HasTests, Reads, command, living, texts, tracing};
+ghost use Rattle.rec_words.specs.Words.{upgrading};
 ghost use Rattle.rec_program.specs.Counts.{counts_line};
+ghost use Rattle.rec_program.specs.LiveRuns.{IsLive};
 ghost use Rattle.rec_program.specs.Objects.{lent};
 ghost use Rattle.rec_program.specs.Promises.{Accepts, IsTold, Judges, LeavesFiles};
 ghost use Rattle.rec_program.specs.Promises.{Stops, Succeeds, Undisturbed};
@@ -34,7 +37,7 @@ use rec_portable::laws::readable_bundles_are_upgraded;
 use rec_portable::upgrade;
 use rec_reading::{Info, Replay, Report, Rerun, Slots};
 use rec_store::Sha256Namer;
-use rec_words::{Command, USAGE, read_words, versions};
+use rec_words::{Command, USAGE, WordsError, read_words, versions};
 use std::alloc::Global;
 
 /// Does what the words ask for, and answers the status to end with, and what it was lent.
@@ -173,146 +176,45 @@ fn run<S: Source, B: Sink, F: Sink, D: Disk, T: Sink, G: Sink>(
         result.streams)
         (command (texts words.now)) }
 {
-    let Streams {
-        mut source,
-        mut bundle,
-        files,
-        mut disk,
-        mut out,
-        mut diag,
-    } = streams;
-    let status = match read_words(words) {
+    match read_words(words) {
         Ok(
             Command::Live {
                 directory: _,
                 settings,
             },
-        ) => {
-            let LiveRun {
-                status,
-                source,
-                files,
-            } = live(alloc, &settings, source, files, &mut out, &mut diag);
-            return Ended {
-                status,
-                streams: Streams {
-                    source,
-                    bundle,
-                    files,
-                    disk,
-                    out,
-                    diag,
-                },
-            };
+        ) => run_live(alloc, &settings, streams),
+        read => {
+            let mut streams = streams;
+            let status = run_command(alloc, read, &mut streams);
+            Ended { status, streams }
         }
-        Ok(
-            Command::Record {
-                bundle: _,
-                settings,
-            },
-        ) => record(
-            alloc,
-            &settings,
-            &mut source,
-            &mut bundle,
-            &mut out,
-            &mut diag,
-        ),
-        Ok(Command::Trace { settings }) => {
-            let printer = Trace {
-                group_by: settings.group_by,
-                message_format: settings.message_format,
-            };
-            show(
-                read_bundle(alloc, &settings, &mut source, &printer),
-                &mut out,
-                &mut diag,
-            )
-        }
-        Ok(Command::Replay { output, settings }) => {
-            let printer = Replay {
-                load_output: output,
-            };
-            show(
-                read_bundle(alloc, &settings, &mut source, &printer),
-                &mut out,
-                &mut diag,
-            )
-        }
-        Ok(Command::Report { settings }) => {
-            show(
-                read_bundle(alloc, &settings, &mut source, &Report),
-                &mut out,
-                &mut diag,
-            )
-        }
-        Ok(Command::Info { settings }) => {
-            show(
-                read_bundle(alloc, &settings, &mut source, &Info),
-                &mut out,
-                &mut diag,
-            )
-        }
-        Ok(Command::Slots { settings }) => {
-            show(
-                read_bundle(alloc, &settings, &mut source, &Slots),
-                &mut out,
-                &mut diag,
-            )
-        }
-        Ok(Command::Rerun { settings }) => {
-            show(
-                read_bundle(alloc, &settings, &mut source, &Rerun),
-                &mut out,
-                &mut diag,
-            )
-        }
-        Ok(
-            Command::Sample {
-                n,
-                bundle: _,
-                settings,
-            },
-        ) => sample(alloc, n, &settings, &mut bundle, &mut out, &mut diag),
-        Ok(
-            Command::Upgrade {
-                bundle: _,
-                settings,
-            },
-        ) => upgrade_bundle(alloc, &settings, &mut source, &mut bundle, &mut diag),
-        Ok(
-            Command::Salvage {
-                bundle: _,
-                settings,
-            },
-        ) => salvage(
-            alloc,
-            &settings,
-            &mut source,
-            &mut bundle,
-            &mut out,
-            &mut diag,
-        ),
-        Ok(
-            Command::Pack {
-                directory,
-                bundle,
-                settings,
-            },
-        ) => pack_directory(
-            alloc,
-            directory,
-            bundle,
-            &settings,
-            &mut source,
-            &mut disk,
-            &mut out,
-            &mut diag,
-        ),
-        Ok(Command::Help) => print(USAGE.as_bytes(), &mut out, &mut diag),
-        Ok(Command::Version) => print(versions().as_bytes(), &mut out, &mut diag),
-        Err(fault) => refuse(fault, &mut diag),
-    };
+    }
+}
+
+/// Records the session of the source into the run's files.
+fn run_live<S: Source, B: Sink, F: Sink, D: Disk, T: Sink, G: Sink>(
+    alloc: Global,
+    settings: &Settings,
+    streams: Streams<S, B, F, D, T, G>,
+) -> Ended<S, B, F, D, T, G>
+    ensures runs { (path : List ℕ)
+        → Runs (lent S.Source B.Sink F.Sink D.Disk T.Sink G.Sink streams result.streams)
+        result.status sha256_number (Ok (living path settings.now)) }
+    ensures disk { result.streams.disk ≡ streams.disk }
+{
+    let Streams {
+        source,
+        bundle,
+        files,
+        disk,
+        mut out,
+        mut diag,
+    } = streams;
+    let LiveRun {
+        status,
+        source,
+        files,
+    } = live(alloc, settings, source, files, &mut out, &mut diag);
     Ended {
         status,
         streams: Streams {
@@ -323,6 +225,96 @@ fn run<S: Source, B: Sink, F: Sink, D: Disk, T: Sink, G: Sink>(
             out,
             diag,
         },
+    }
+}
+
+/// Does what words ask for that don't record into a directory.
+fn run_command<S: Source, B: Sink, F: Sink, D: Disk, T: Sink, G: Sink>(
+    alloc: Global,
+    read: Result<Command<'_>, WordsError>,
+    streams: &mut Streams<S, B, F, D, T, G>,
+) -> u8
+    requires other { ¬ IsLive read }
+    requires within { IfOk read HasTests }
+    ensures runs { (words : Result Asked WordsError)
+        → Reads read.entry words
+        → Runs (lent S.Source B.Sink F.Sink D.Disk T.Sink G.Sink streams.old streams.new)
+        result sha256_number words }
+    ensures files { (words : Result Asked WordsError)
+        → Reads read.entry words
+        → LeavesFiles (lent S.Source B.Sink F.Sink D.Disk T.Sink G.Sink streams.old streams.new)
+        words }
+{
+    let Streams {
+        source,
+        bundle,
+        disk,
+        out,
+        diag,
+        ..
+    } = streams;
+    match read {
+        Ok(Command::Live { .. }) => unreachable!(),
+        Ok(
+            Command::Record {
+                bundle: _,
+                settings,
+            },
+        ) => record(alloc, &settings, source, bundle, out, diag),
+        Ok(Command::Trace { settings }) => {
+            let printer = Trace {
+                group_by: settings.group_by,
+                message_format: settings.message_format,
+            };
+            show(read_bundle(alloc, &settings, source, &printer), out, diag)
+        }
+        Ok(Command::Replay { output, settings }) => {
+            let printer = Replay {
+                load_output: output,
+            };
+            show(read_bundle(alloc, &settings, source, &printer), out, diag)
+        }
+        Ok(Command::Report { settings }) => {
+            show(read_bundle(alloc, &settings, source, &Report), out, diag)
+        }
+        Ok(Command::Info { settings }) => {
+            show(read_bundle(alloc, &settings, source, &Info), out, diag)
+        }
+        Ok(Command::Slots { settings }) => {
+            show(read_bundle(alloc, &settings, source, &Slots), out, diag)
+        }
+        Ok(Command::Rerun { settings }) => {
+            show(read_bundle(alloc, &settings, source, &Rerun), out, diag)
+        }
+        Ok(
+            Command::Sample {
+                n,
+                bundle: _,
+                settings,
+            },
+        ) => sample(alloc, n, &settings, bundle, out, diag),
+        Ok(
+            Command::Upgrade {
+                bundle: _,
+                settings,
+            },
+        ) => upgrade_bundle(alloc, &settings, source, bundle, diag),
+        Ok(
+            Command::Salvage {
+                bundle: _,
+                settings,
+            },
+        ) => salvage(alloc, &settings, source, bundle, out, diag),
+        Ok(
+            Command::Pack {
+                directory,
+                bundle: path,
+                settings,
+            },
+        ) => pack_directory(alloc, directory, path, &settings, source, disk, out, diag),
+        Ok(Command::Help) => print(USAGE.as_bytes(), out, diag),
+        Ok(Command::Version) => print(versions().as_bytes(), out, diag),
+        Err(fault) => refuse(fault, diag),
     }
 }
 

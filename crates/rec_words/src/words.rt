@@ -339,7 +339,8 @@ pub fn bundle_path(words: &[String]) -> Option<&str>
     }
 }
 
-/// Returns the directory that a run is recorded into while it goes on, where the words ask for that.
+/// Returns the directory that a run is recorded into while it goes on, where the words ask for
+/// that.
 pub fn directory_path(words: &[String]) -> Option<&str>
     ensures { option_map (λ path. path.now) result ≡ directory_of (command (texts words.now)) }
 {
