@@ -41,12 +41,7 @@ fn add_all(writer: &mut ContainerWriter<GrowingSink>) -> Result<(), ContainerWri
 }
 
 /// Puts what is left of a file on a disk.
-fn put_left(
-    disk: &mut MemoryDisk,
-    path: &str,
-    bytes: &[u8],
-    left: Left,
-) -> Result<(), AllocError> {
+fn put_left(disk: &mut MemoryDisk, path: &str, bytes: &[u8], left: Left) -> Result<(), AllocError> {
     match left {
         Left::All => disk.put(path, bytes),
         Left::AllBut(count) => disk.put(path, &bytes[..bytes.len().saturating_sub(count)]),
@@ -60,7 +55,12 @@ pub fn put_run(alloc: Global, disk: &mut MemoryDisk, directory: &Directory) -> R
     let put = put_left(disk, "r/store.zip", &store, directory.store);
     drop(store);
     put?;
-    put_left(disk, "r/manifest.json", manifest().as_bytes(), directory.manifest)?;
+    put_left(
+        disk,
+        "r/manifest.json",
+        manifest().as_bytes(),
+        directory.manifest,
+    )?;
     put_left(disk, "r/run.log.zst", log().as_bytes(), directory.log)?;
     disk.put("b.zip", b"before")?;
     Ok(())

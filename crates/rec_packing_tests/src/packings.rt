@@ -132,8 +132,8 @@ const STOPPED: &[Case] = &[
     },
 ];
 
-/// Runs that aren't packed. The manifest is judged before the head, the head before the store, and the
-/// store before the log.
+/// Runs that aren't packed. The manifest is judged before the head, the head before the store, and
+/// the store before the log.
 const REFUSED: &[Case] = &[
     Case {
         directory: Directory {
