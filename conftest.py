@@ -9,6 +9,7 @@ from __future__ import annotations
 import os
 import pathlib
 import shutil
+import signal
 from typing import NoReturn
 
 import pytest
@@ -30,6 +31,15 @@ def leave_out(missing: str) -> NoReturn:
     if os.environ.get("REZOVAMY_TEST_ALL"):
         pytest.fail(f"{missing} is missing", pytrace=False)
     pytest.skip(f"{missing} is missing")
+
+
+def pytest_configure() -> None:
+    """Let a signal of the keyboard come, which a shell ignores for what it runs in the background.
+
+    What a test starts would ignore it too.
+    """
+    if signal.getsignal(signal.SIGINT) == signal.SIG_IGN:
+        signal.signal(signal.SIGINT, signal.default_int_handler)
 
 
 def pytest_runtest_setup(item: pytest.Item) -> None:

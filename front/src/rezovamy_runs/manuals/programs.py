@@ -40,11 +40,20 @@ RECORDING = {
         "write what is whole of the stopped recording in the bundle on standard input into BUNDLE",
         ("BUNDLE",),
     ),
+    "live": (
+        "record the session on standard input into the new folder DIR, event by event",
+        ("DIR",),
+    ),
+    "pack": (
+        "write the bundle of the run in the folder DIR, whole or stopped, into BUNDLE",
+        ("DIR", "BUNDLE"),
+    ),
 }
 # What takes a number of bytes, as causes.py says it of options.
 BYTES = "a number of bytes"
 OPERANDS = {
     "BUNDLE": "the file of the bundle; options stand after it",
+    "DIR": "the folder of a run that `live` makes",
     "N": "how many tests, up to 10000",
 }
 OPTIONS = {
@@ -53,7 +62,7 @@ OPTIONS = {
     "--max-output": "the most bytes of an output that is kept whole (10485760)",
     "--read-limit": "the most bytes of the manifest, of the log and of an entry of the store "
     "(268435456)",
-    "--session-limit": "the most bytes of the session or the bundle that is read (268435456)",
+    "--session-limit": "the most bytes of standard input that are read (268435456)",
     "--output": "read the outputs of tests, or leave them out (load)",
 }
 
