@@ -7,8 +7,9 @@
 # FOLDER gets rezovamy-VERSION-SYSTEM-MACHINE.tar.gz, which holds what front/install.sh installs,
 # the licences, a README and the checksums of all files, and beside it its own checksum. The path of
 # the archive is printed. The program is the one that REZOVAMY names, or else the one that was built
-# in this clone. The same files give the same archive.
+# in this clone. The same files give the same archive, whenever and wherever it is made.
 set -eu
+export LC_ALL=C
 
 LIBRARY='s/^[[:space:]]*\([^ /]*\.so[^ ]*\) =>.*/\1/p'
 ADVICE="make room, or name another folder"
@@ -16,6 +17,7 @@ EXAMPLE="front/package.sh /tmp"
 
 # shellcheck source-path=SCRIPTDIR source=built_program.sh
 . "$(dirname "$0")/built_program.sh"
+demand_program
 version=$("$program" --version) ||
     fault "$program doesn't run here: build it anew, or name another in REZOVAMY"
 version=$(printf '%s\n' "$version" | sed -n 's/^rezovamy //p')
@@ -48,7 +50,7 @@ END
 # Writes the checksums of all files.
 sums() {
     cd "$staged/$name" || return
-    find . -type f ! -name SHA256SUMS | LC_ALL=C sort |
+    find . -type f ! -name SHA256SUMS | sort |
         while read -r file; do sha256sum "$file" || return; done >"$staged/sums" &&
         mv "$staged/sums" SHA256SUMS
 }
@@ -59,9 +61,9 @@ pack() {
         cp "$top/LICENSE-MIT" "$top/LICENSE-APACHE" "$staged/$name/" &&
         describe &&
         (sums) &&
-        tar --sort=name --mode=u=rwX,go=rX --owner=0 --group=0 --numeric-owner \
-            --mtime=@"${SOURCE_DATE_EPOCH:-0}" -C "$staged" -cf "$staged/tar" "$name" &&
-        gzip -n "$staged/tar" &&
+        tar --format=ustar --sort=name --mode=u=rwX,go=rX --owner=0 --group=0 --numeric-owner \
+            --mtime=@0 -C "$staged" -cf "$staged/tar" "$name" &&
+        gzip -9n "$staged/tar" &&
         mv "$staged/tar.gz" "$staged/$name.tar.gz" &&
         (cd "$staged" && sha256sum "$name.tar.gz" >"$name.tar.gz.sha256") &&
         mv "$staged/$name.tar.gz" "$staged/$name.tar.gz.sha256" "$folder/"

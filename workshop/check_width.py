@@ -42,6 +42,7 @@ class Kind:
 KINDS = (
     Kind(("LICENSE-*",), None, "a licence stands as it was given"),
     Kind(("*.png",), None, "a picture has no lines"),
+    Kind(("dist/*",), None, "a package and its hashes stand as they were made"),
     Kind(("*.xsd",), None, "a schema stands as others wrote it"),
     Kind(("*.session", "crates/*/stdin"), None, "an event of a session stands on one line"),
     Kind(("*.json",), None, "JSON stands as a program printed it"),

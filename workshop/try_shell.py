@@ -4,7 +4,8 @@
 
 Standard streams that are closed, full or left by their reader, files that can't be written, and
 limits of the system: each is a line for `sh`, with what must come of it. docs/RELIABILITY.md has
-the same as a table. A small file system and another user need rights; where there are none, their
+the same as a table. A fresh clone, with a package of the program in dist/, is installed without
+the kit. A small file system and another user need rights; where there are none, their
 lines are named on standard error, and left out. It needs Linux.
 """
 
@@ -12,6 +13,7 @@ from __future__ import annotations
 
 import dataclasses
 import os
+import shlex
 import signal
 import subprocess
 import sys
@@ -20,7 +22,7 @@ from pathlib import Path
 from typing import TypeAlias
 
 from rezovamy_runs.command_line import command_line, demand_program, heed_signals, say
-from workshop import PROGRAM
+from workshop import PROGRAM, TOP
 from workshop.cases.hostile import BUNDLE, SESSION
 from workshop.cases.samples import BUNDLE_OF_NONE
 from workshop.cases.texts import PAUSE_ALONE
@@ -225,6 +227,20 @@ LIMITS = [
     ),
 ]
 
+# What the first lines of README.md do: no kit, no cargo and no built program are there.
+BARE = "env -i HOME=$PWD PATH=/usr/bin:/bin "
+INSTALLATION = [
+    Try(
+        "a fresh clone is installed from its package",
+        f"git clone -q {shlex.quote(str(TOP))} clone && cd clone &&"
+        " python3 -m workshop.make_dist --program $(command -v rezovamy) && cd .. &&"
+        f" {BARE} clone/front/install.sh to > said &&"
+        f" {BARE} to/bin/rezovamy record b < session && {BARE} to/bin/rezovamy-runs show b > shown",
+        printed=PAUSE_ALONE,
+        file=BUNDLE,
+    ),
+]
+
 # Where rights are needed: a line that needs the same, and what is tried.
 OTHER_USER = (
     f"{NOBODY}rezovamy --version > first",
@@ -329,6 +345,7 @@ def all_tries(shell: Shell) -> list[Try]:
         *STANDARD_INPUT,
         *PATHS,
         *LIMITS,
+        *INSTALLATION,
         *shell.allowed(*OTHER_USER),
         *shell.allowed(*small_file_system(shell.large)),
     ]

@@ -128,7 +128,7 @@ def test_an_installation_runs_wherever_it_is_moved(machine: Machine) -> None:
     prefix, moved = machine.folder / "a prefix", machine.folder / "moved"
     said = machine.make("install.sh", prefix)
     programs = "rezovamy, rezovamy-runs, session_from_libtest and junit_xml"
-    assert said == f"{prefix}/bin has {programs}\n"
+    assert said.splitlines()[0] == f"{prefix}/bin has {programs}"
     machine.make("install.sh", prefix)
     prefix.rename(moved)
     assert sorted(os.listdir(moved / "bin")) == PROGRAMS

@@ -58,7 +58,9 @@ def test_what_stands_beside_a_free_line_is_not(name: str, text: str) -> None:
     assert list(wide_lines(name, text))
 
 
-@pytest.mark.parametrize("name", ["examples/a.session", "crates/a/stdout", "LICENSE-MIT", "a.edit"])
+@pytest.mark.parametrize(
+    "name", ["examples/a.session", "crates/a/stdout", "LICENSE-MIT", "a.edit", "dist/a.sha256"]
+)
 def test_data_has_no_width(name: str) -> None:
     assert kind_of(name).columns is None
     assert not list(wide_lines(name, WIDER))
