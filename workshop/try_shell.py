@@ -228,14 +228,14 @@ LIMITS = [
 ]
 
 # What the first lines of README.md do: no kit, no cargo and no built program are there.
-BARE = "env -i HOME=$PWD PATH=/usr/bin:/bin "
+BARE = "env -i HOME=$PWD PATH=/usr/bin:/bin"
 INSTALLATION = [
     Try(
         "a fresh clone is installed from its package",
         f"git clone -q {shlex.quote(str(TOP))} clone && cd clone &&"
         " python3 -m workshop.make_dist --program $(command -v rezovamy) && cd .. &&"
         f" {BARE} clone/front/install.sh to > said &&"
-        f" {BARE} to/bin/rezovamy record b < session && {BARE} to/bin/rezovamy-runs show b > shown",
+        f" {BARE} to/bin/rezovamy record b < session && {BARE} to/bin/rezovamy-runs show ./b > shown",
         printed=PAUSE_ALONE,
         file=BUNDLE,
     ),
