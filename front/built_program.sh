@@ -14,7 +14,9 @@ fault() {
 
 # Ends the script if no program is at the path.
 demand_program() {
-    if [ ! -f "$program" ] || [ ! -x "$program" ]; then fault "no program is at $program: $BUILD"; fi
+    if [ ! -f "$program" ] || [ ! -x "$program" ]; then
+        fault "no program is at $program: $BUILD"
+    fi
 }
 
 if [ $# -ne 1 ]; then fault "a folder is wanted, as in $EXAMPLE" 2; fi

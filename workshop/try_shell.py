@@ -235,7 +235,8 @@ INSTALLATION = [
         f"git clone -q {shlex.quote(str(TOP))} clone && cd clone &&"
         " python3 -m workshop.make_dist --program $(command -v rezovamy) && cd .. &&"
         f" {BARE} clone/front/install.sh to > said &&"
-        f" {BARE} to/bin/rezovamy record b < session && {BARE} to/bin/rezovamy-runs show ./b > shown",
+        f" {BARE} to/bin/rezovamy record b < session &&"
+        f" {BARE} to/bin/rezovamy-runs show ./b > shown",
         printed=PAUSE_ALONE,
         file=BUNDLE,
     ),

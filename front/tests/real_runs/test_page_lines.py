@@ -26,7 +26,7 @@ COUNTS = "8 tests in .*: 6 passed, 2 failed, 1 skipped"
 
 @dataclasses.dataclass(frozen=True)
 class Clone:
-    """What the lines need of a clone, and a folder in place of `/tmp`."""
+    """What the lines need of a clone, and a folder in place of `/tmp` and the user's folder."""
 
     folder: pathlib.Path
     made: pathlib.Path
@@ -36,25 +36,37 @@ class Clone:
         """Return what a script prints in a folder of the clone, and see that it ends so."""
         left = {name: value for name, value in os.environ.items() if name not in LEFT_OUT}
         done = subprocess.run(
-            ["bash", "-eo", "pipefail", "-c", script.replace("/tmp/", f"{self.made}/")],
+            ["bash", "-eo", "pipefail", "-c", self.here(script)],
             cwd=self.folder / folder,
             capture_output=True,
             text=True,
             check=False,
-            env={**left, "CARGO_TARGET_DIR": str(self.target), "CARGO_NET_OFFLINE": "true"},
+            env={
+                **left,
+                "PATH": f"{self.made}/.local/bin:{left['PATH']}",
+                "CARGO_TARGET_DIR": str(self.target),
+                "CARGO_NET_OFFLINE": "true",
+            },
         )
         assert done.returncode == status, done.stderr
         return done.stdout
 
+    def here(self, script: str) -> str:
+        """Return a script with a folder of its own in place of `/tmp` and of the user's folder."""
+        return script.replace("/tmp/", f"{self.made}/").replace("~/", f"{self.made}/")
+
 
 @pytest.fixture(scope="module")
 def clone(program: pathlib.Path, tmp_path_factory: pytest.TempPathFactory) -> Clone:
-    """A clone of which the example, the front end and the program are there."""
+    """A clone in which the example, the front end, its pages and the program are there."""
     folder = tmp_path_factory.mktemp("pages")
     clone = Clone(folder / "clone", folder / "made", folder / "target")
     shutil.copytree(EXAMPLES / "sums", clone.folder / "examples/sums", ignore=BUILT)
     unread = shutil.ignore_patterns("__pycache__", "tests")
     shutil.copytree(FRONT, clone.folder / "front", ignore=unread)
+    shutil.copytree(TOP / "docs", clone.folder / "docs")
+    for licence in TOP.glob("LICENSE-*"):
+        shutil.copyfile(licence, clone.folder / licence.name)
     built = clone.folder / "crates/rezovamy/out/rezovamy"
     built.parent.mkdir(parents=True)
     built.symlink_to(program)
@@ -79,7 +91,7 @@ def counts_of(path: pathlib.Path) -> list[str | None]:
 @pytest.fixture(scope="module")
 def first_run(clone: Clone) -> str:
     """What the first lines of README.md print."""
-    return clone.run(block_of("README.md", "rezovamy-runs test"), ".", 101)
+    return clone.run(block_of("README.md", "front/install.sh"), ".", 101)
 
 
 def test_the_first_lines_record_a_run(first_run: str) -> None:
@@ -92,8 +104,8 @@ def test_the_next_lines_show_the_run(clone: Clone) -> None:
     """They are for the folder of its crate."""
     shown = clone.run(block_of("README.md", "rezovamy-runs page"), "examples/sums", 0)
     for part in (
-        r"\A/.*\.html\n",
-        r"^PASS .* takes_a_second\n",
+        r"\APASS .* takes_a_second\n",
+        r"^/.*\.html\n",
         r"^run +started .*\n\w{4} ",
         r"^/.*/junit\.xml\n\Z",
     ):
