@@ -62,7 +62,8 @@ def find() -> pathlib.Path:
             "correct it, or unset it"
         )
     raise Fault(
-        "the program rezovamy isn't there: build it as README.md says, or name its path in REZOVAMY"
+        "the program rezovamy isn't there: install it with front/install.sh ~/.local, "
+        "or name its path in REZOVAMY"
     )
 
 
