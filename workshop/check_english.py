@@ -125,7 +125,7 @@ def too_many(name: str, findings: list[Finding], kept: int, what: str) -> Iterat
 
 def faults(top: Path, kept: Mapping[str, tuple[int, int]]) -> Iterator[str]:
     """Yield all that is wrong with the pages."""
-    for path in [top / "README.md", *sorted((top / "docs").glob("*.md"))]:
+    for path in [top / "README.md", *sorted((top / "docs").rglob("*.md"))]:
         name, page = str(path.relative_to(top)), path.read_text(encoding="utf-8")
         sentences, words = kept.get(name, (0, 0))
         yield from too_many(name, list(long_sentences(page)), sentences, "long sentences")

@@ -272,7 +272,7 @@ def all_faults(top: Path) -> Iterator[str]:
     """Yield all that is wrong, each with its page."""
     crates = Crates(top / "crates")
     command_page, proof_page = top / "docs/CLI.md", top / "docs/PROOFS.md"
-    pages = [top / "README.md", *sorted((top / "docs").glob("*.md"))]
+    pages = [top / "README.md", *sorted((top / "docs").rglob("*.md"))]
     found = [(page, page_faults(page, top, crates)) for page in pages]
     cases = sorted((top / "workshop/cases").glob("*.py"))
     found += [(module, test_faults(module, crates)) for module in cases]
