@@ -2,17 +2,17 @@
 
     python3 -m workshop.check_english
 
-It counts the sentences of more than 25 words and the words of `OBSCURE` in each page. `KEPT` says
-how many a page may have; a page that it doesn't name may have none. For a page that has more it
-prints each place as `FILE:LINE: WHAT`, and then the count. Fenced blocks don't count. A code span
-counts as one word of a sentence, and as none in a table. The status is 1 if a page has too many.
+It prints each sentence of more than 25 words and each word of `OBSCURE` as `FILE:LINE: WHAT`.
+Fenced blocks don't count. A code span counts as one word of a sentence, and as none in a table. The
+status is 1 if anything was found.
 """
 
 from __future__ import annotations
 
+import itertools
 import re
 import sys
-from collections.abc import Iterator, Mapping, Sequence
+from collections.abc import Iterator, Sequence
 from dataclasses import dataclass
 from pathlib import Path
 
@@ -22,10 +22,6 @@ from workshop import TOP
 from workshop.check_width import prose_lines
 
 LONGEST_SENTENCE = 25
-# How many long sentences and how many obscure words a page may have.
-KEPT: Mapping[str, tuple[int, int]] = {
-    "docs/PROOFS.md": (133, 192),
-}
 
 CODE_SPAN = re.compile(r"(`+)(?!`).+?(?<!`)\1(?!`)", re.S)
 SENTENCE = re.compile(r"\S.*?(?:[.!?][)\]*_\"]*(?=\s|$)|$)", re.S)
@@ -116,26 +112,18 @@ def obscure_words(page: str) -> Iterator[Finding]:
             yield Finding(block.line_at(found.start()), f"`{found[0]}`")
 
 
-def too_many(name: str, findings: list[Finding], kept: int, what: str) -> Iterator[str]:
-    """Yield what is printed of a page's findings, which is nothing if it may have them."""
-    if len(findings) > kept:
-        yield from (f"{name}:{finding.line}: {finding.what}" for finding in findings)
-        yield f"{name}: {len(findings)} {what}, at most {kept}"
-
-
-def faults(top: Path, kept: Mapping[str, tuple[int, int]]) -> Iterator[str]:
+def faults(top: Path) -> Iterator[str]:
     """Yield all that is wrong with the pages."""
     for path in [top / "README.md", *sorted((top / "docs").rglob("*.md"))]:
-        name, page = str(path.relative_to(top)), path.read_text(encoding="utf-8")
-        sentences, words = kept.get(name, (0, 0))
-        yield from too_many(name, list(long_sentences(page)), sentences, "long sentences")
-        yield from too_many(name, list(obscure_words(page)), words, "obscure words")
+        page = path.read_text(encoding="utf-8")
+        for finding in itertools.chain(long_sentences(page), obscure_words(page)):
+            yield f"{path.relative_to(top)}:{finding.line}: {finding.what}"
 
 
 def main() -> int:
     """Print what is wrong, and return the status."""
     command_line(__doc__).parse_args()
-    lines = list(faults(TOP, KEPT))
+    lines = list(faults(TOP))
     print("".join(f"{line}\n" for line in lines), end="")
     return int(bool(lines))
 

@@ -6,8 +6,8 @@ import pathlib
 
 import pytest
 
-from workshop import TOP, check_english
-from workshop.check_english import KEPT, LONGEST_SENTENCE, faults, long_sentences, obscure_words
+from workshop import check_english
+from workshop.check_english import LONGEST_SENTENCE, faults, long_sentences, obscure_words
 
 SHORT = "word " * (LONGEST_SENTENCE - 1) + "end."
 LONG = "word " * LONGEST_SENTENCE + "end."
@@ -79,33 +79,28 @@ def top(tmp_path: pathlib.Path) -> pathlib.Path:
     return tmp_path
 
 
-def test_what_is_kept_is_not_printed(top: pathlib.Path) -> None:
-    assert not list(faults(top, {"docs/A.md": (2, 1)}))
-
-
-def test_a_page_that_is_not_named_has_none(top: pathlib.Path) -> None:
-    assert list(faults(top, {})) == [
+def test_each_place_is_found(top: pathlib.Path) -> None:
+    assert list(faults(top)) == [
         "docs/A.md:1: a sentence of 26 words",
         "docs/A.md:2: a sentence of 26 words",
-        "docs/A.md: 2 long sentences, at most 0",
         "docs/A.md:3: `takes`",
-        "docs/A.md: 1 obscure words, at most 0",
     ]
 
 
-def test_the_status_says_whether_there_are_too_many(
+def test_pages_in_folders_of_docs_are_read(top: pathlib.Path) -> None:
+    (top / "docs/A.md").write_text("It is short.\n")
+    (top / "docs/tasks").mkdir()
+    (top / "docs/tasks/B.md").write_text("It is short.\nIt takes none.\n")
+    assert list(faults(top)) == ["docs/tasks/B.md:2: `takes`"]
+
+
+def test_the_status_says_whether_there_are_any(
     top: pathlib.Path, monkeypatch: pytest.MonkeyPatch, capsys: pytest.CaptureFixture[str]
 ) -> None:
     monkeypatch.setattr(check_english, "TOP", top)
     monkeypatch.setattr("sys.argv", ["check_english"])
-    monkeypatch.setattr(check_english, "KEPT", {"docs/A.md": (2, 1)})
+    (top / "docs/A.md").write_text("It is short.\n")
     assert check_english.main() == 0
-    monkeypatch.setattr(check_english, "KEPT", {"docs/A.md": (2, 0)})
+    (top / "docs/A.md").write_text("It takes none.\n")
     assert check_english.main() == 1
-    assert (
-        capsys.readouterr().out == "docs/A.md:3: `takes`\ndocs/A.md: 1 obscure words, at most 0\n"
-    )
-
-
-def test_the_table_names_pages() -> None:
-    assert all((TOP / name).is_file() for name in KEPT)
+    assert capsys.readouterr().out == "docs/A.md:1: `takes`\n"
