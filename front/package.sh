@@ -19,7 +19,7 @@ EXAMPLE="front/package.sh /tmp"
 . "$(dirname "$0")/built_program.sh"
 demand_program
 version=$("$program" --version) ||
-    fault "$program doesn't run here: build it anew, or name another in REZOVAMY"
+    fault "$program doesn't run here: build it again, or name another in REZOVAMY"
 version=$(printf '%s\n' "$version" | sed -n 's/^rezovamy //p')
 system=$(uname -s | tr '[:upper:]' '[:lower:]')
 name=rezovamy-$version-$system-$(uname -m)

@@ -3,8 +3,9 @@
     python3 -m workshop.check_english
 
 It prints each sentence of more than 25 words and each word of `OBSCURE` as `FILE:LINE: WHAT`.
-Fenced blocks don't count. A code span counts as one word of a sentence, and as none in a table. The
-status is 1 if anything was found.
+Fenced blocks don't count. A code span counts as one word of a sentence, and as none in a table. Of
+what the front end says of the program's fault lines it prints the obscure words alone, by the line.
+The status is 1 if anything was found.
 """
 
 from __future__ import annotations
@@ -12,11 +13,12 @@ from __future__ import annotations
 import itertools
 import re
 import sys
-from collections.abc import Iterator, Sequence
+from collections.abc import Iterator, Mapping, Sequence
 from dataclasses import dataclass
 from pathlib import Path
 
 from rezovamy_runs.command_line import command_line
+from rezovamy_runs.faults.sentences import PHRASES, SENTENCES
 
 from workshop import TOP
 from workshop.check_width import prose_lines
@@ -120,10 +122,16 @@ def faults(top: Path) -> Iterator[str]:
             yield f"{path.relative_to(top)}:{finding.line}: {finding.what}"
 
 
+def message_faults(messages: Mapping[str, str]) -> Iterator[str]:
+    """Yield the obscure words of messages, each with the name of its message."""
+    for name, message in messages.items():
+        yield from (f"{name}: {finding.what}" for finding in obscure_words(message))
+
+
 def main() -> int:
     """Print what is wrong, and return the status."""
     command_line(__doc__).parse_args()
-    lines = list(faults(TOP))
+    lines = [*faults(TOP), *message_faults({**PHRASES, **SENTENCES})]
     print("".join(f"{line}\n" for line in lines), end="")
     return int(bool(lines))
 

@@ -17,7 +17,7 @@ from tests import FRONT, TOP
 
 SESSION = TOP / "crates/rezovamy/data/one_test.session"
 RAISE_LIMIT = (
-    "run.log.zst has 1915 bytes, and 1914 may be read: the option --read-limit 1915 takes it"
+    "run.log.zst has 1915 bytes, and 1914 may be read: the option --read-limit 1915 allows it"
 )
 
 
@@ -115,7 +115,7 @@ def test_each_form_has_its_own_sentence(form: str, sentence: str) -> None:
         (
             "UnknownOption at=1",
             ["info", "--max-output", "1"],
-            "`info` doesn't take '--max-output', but --read-limit or --session-limit",
+            "`info` has no option '--max-output': use --read-limit or --session-limit",
         ),
         (
             "UnknownCommand at=0",
@@ -126,22 +126,22 @@ def test_each_form_has_its_own_sentence(form: str, sentence: str) -> None:
         (
             "BadNumber at=1",
             ["sample", "10001", "b"],
-            "'10001' is no whole number from 0 to 10000: rezovamy sample 80 BUNDLE",
+            "'10001' isn't a whole number from 0 to 10000: rezovamy sample 80 BUNDLE",
         ),
         (
             "MissingValue at=3",
             ["record", "b", "--group-by"],
-            "--group-by has no value: it takes binary or slot",
+            "--group-by has no value: it must be binary or slot",
         ),
         (
             "BadValue at=2",
             ["info", "--read-limit", "1k"],
-            "--read-limit takes a number of bytes, and not '1k'",
+            "--read-limit must be a number of bytes, not '1k'",
         ),
         (
             "RepeatedOption at=3",
             ["info", "--read-limit", "1", "--read-limit", "2"],
-            "--read-limit stands there twice: leave one out",
+            "--read-limit comes twice: leave one out",
         ),
     ],
 )
@@ -151,7 +151,7 @@ def test_words_that_are_mistyped(line: str, words: list[str], sentence: str) -> 
 
 def test_words_that_do_not_fit_the_line() -> None:
     sentence = said("UnknownOption at=9", "info", "run.bundle") or ""
-    assert sentence.startswith("word 9 is no option of the command")
+    assert sentence.startswith("word 9 isn't an option of the command")
 
 
 # Lines with what the program was given.
@@ -218,7 +218,7 @@ def test_one_file_for_another(line: str, words: list[str], begins: bytes, senten
         ),
         (
             ["record", "{folder}/file/d/c"],
-            "{folder}/file is a file, no folder: name a file elsewhere",
+            "{folder}/file is a file, not a folder: name a file elsewhere",
         ),
         (
             ["record", "{folder}/" + "é" * 128],
@@ -272,7 +272,7 @@ def test_no_room_left(monkeypatch: pytest.MonkeyPatch) -> None:
             "",
             None,
             "rezovamy info ended with status 9 and said nothing: try it again,"
-            " or build the program anew",
+            " or install the program again",
         ),
     ],
 )
@@ -408,7 +408,7 @@ def test_a_session_in_place_of_a_bundle(explained: Explained) -> None:
 @pytest.mark.program
 def test_a_store_in_place_of_a_bundle(explained: Explained) -> None:
     _, sentence = explained.answer(["info"], entries(explained.recorded())[b"store.zip"])
-    assert sentence.startswith("this is no bundle, since none of its entries is manifest.json")
+    assert sentence.startswith("this isn't a bundle, since it has no entry manifest.json")
 
 
 @pytest.mark.program

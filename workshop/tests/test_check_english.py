@@ -7,7 +7,13 @@ import pathlib
 import pytest
 
 from workshop import check_english
-from workshop.check_english import LONGEST_SENTENCE, faults, long_sentences, obscure_words
+from workshop.check_english import (
+    LONGEST_SENTENCE,
+    faults,
+    long_sentences,
+    message_faults,
+    obscure_words,
+)
 
 SHORT = "word " * (LONGEST_SENTENCE - 1) + "end."
 LONG = "word " * LONGEST_SENTENCE + "end."
@@ -92,6 +98,11 @@ def test_pages_in_folders_of_docs_are_read(top: pathlib.Path) -> None:
     (top / "docs/tasks").mkdir()
     (top / "docs/tasks/B.md").write_text("It is short.\nIt takes none.\n")
     assert list(faults(top)) == ["docs/tasks/B.md:2: `takes`"]
+
+
+def test_a_message_has_no_obscure_words() -> None:
+    messages = {"A at={at}": "it is no word: take it", "B": LONG, "C": "`takes` what it gives"}
+    assert list(message_faults(messages)) == ["A at={at}: `is no`", "C: `gives`"]
 
 
 def test_the_status_says_whether_there_are_any(

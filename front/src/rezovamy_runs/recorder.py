@@ -97,7 +97,7 @@ def run(
         )
     except OSError as error:
         raise Fault(
-            f"{path} can't be run: {error.strerror}; build it anew, or name another in REZOVAMY"
+            f"{path} can't be run: {error.strerror}; build it again, or name another in REZOVAMY"
         ) from error
     if done.returncode != 0:
         line = done.stderr.decode("utf-8", "replace").strip()
@@ -138,7 +138,7 @@ def sentence(words: Sequence[Word], status: int, line: str, begins: bytes | None
         return f"{ended}: see what `ulimit -a` allows, and try it again"
     if not line:
         ended = f"{command} ended with status {status} and said nothing"
-        return f"{ended}: try it again, or build the program anew"
+        return f"{ended}: try it again, or install the program again"
     call = Call(tuple(os.fspath(word) for word in words), begins)
     return f"{command}: {explain_or_show(line, call)}"
 

@@ -108,20 +108,20 @@ def about_missing(call: Call, _values: Values) -> str | None:
     """Say which argument is missing."""
     command = call.command
     if command == "record":
-        return "`record` wants the file that it is to write: rezovamy record BUNDLE < SESSION"
+        return "`record` needs the file that it writes: rezovamy record BUNDLE < SESSION"
     if command in ("upgrade", "salvage"):
-        wanted = f"`{command}` wants the file that it is to write"
-        return f"{wanted}: rezovamy {command} BUNDLE < OLDER"
+        needed = f"`{command}` needs the file that it writes"
+        return f"{needed}: rezovamy {command} BUNDLE < OLDER"
     if command == "live":
-        return "`live` wants the folder that it is to make: rezovamy live DIR < SESSION"
+        return "`live` needs the folder that it makes: rezovamy live DIR < SESSION"
     if command == "pack":
         return (
-            "`pack` wants the folder that `live` made, and the file that it is to write: "
+            "`pack` needs the folder that `live` made, and the file that it writes: "
             "rezovamy pack DIR BUNDLE < /dev/null"
         )
     if command == "sample":
         return (
-            "`sample` wants a number of tests, and the file that it is to write: "
+            "`sample` needs a number of tests, and the file that it writes: "
             "rezovamy sample 80 BUNDLE"
         )
     return None
@@ -130,7 +130,7 @@ def about_missing(call: Call, _values: Values) -> str | None:
 def about_number(call: Call, values: Values) -> str | None:
     """Say what to do about a number of tests that is none."""
     word = call.word(values)
-    return word and f"{word!r} is no whole number from 0 to 10000: rezovamy sample 80 BUNDLE"
+    return word and f"{word!r} isn't a whole number from 0 to 10000: rezovamy sample 80 BUNDLE"
 
 
 def about_option(call: Call, values: Values) -> str | None:
@@ -147,13 +147,13 @@ def about_option(call: Call, values: Values) -> str | None:
     meant = None if word in OPTIONS else nearest(word, taken)
     if meant:
         return f"`{call.command}` has no option {word!r}: {meant} is meant"
-    return f"`{call.command}` doesn't take {word!r}, but {listed(taken)}"
+    return f"`{call.command}` has no option {word!r}: use {listed(taken)}"
 
 
 def about_repeated(call: Call, values: Values) -> str | None:
     """Say which option stands there twice."""
     word = call.word(values)
-    return word and f"{word} stands there twice: leave one out"
+    return word and f"{word} comes twice: leave one out"
 
 
 def about_value(call: Call, values: Values) -> str | None:
@@ -163,8 +163,8 @@ def about_value(call: Call, values: Values) -> str | None:
     if option not in OPTIONS:
         return None
     if at == len(call.words):
-        return f"{option} has no value: it takes {OPTIONS[option]}"
-    return f"{option} takes {OPTIONS[option]}, and not {call.words[at]!r}"
+        return f"{option} has no value: it must be {OPTIONS[option]}"
+    return f"{option} must be {OPTIONS[option]}, not {call.words[at]!r}"
 
 
 def about_head(call: Call, _values: Values) -> str | None:
@@ -212,10 +212,10 @@ def about_archive(call: Call, _values: Values) -> str | None:
         case "a zip file":
             return (
                 "this is a zip file, as nextest's own recordings are, "
-                "which can't be read here: record the tests anew"
+                "which can't be read here: record the tests again"
             )
         case other:
-            return f"this is {other}, not a bundle: hand over the file that `record` wrote"
+            return f"this is {other}, not a bundle: pass the file that `record` wrote"
 
 
 def about_bundle(call: Call, _values: Values) -> str | None:
@@ -236,7 +236,7 @@ def why_unwritten(path: str) -> str | None:
     if len(os.fsencode(os.path.basename(path))) > LONGEST_NAME:
         return f"the name of the file has more than {LONGEST_NAME} bytes: give it a shorter one"
     if file_above(path):
-        return f"{file_above(path)} is a file, no folder: name a file elsewhere"
+        return f"{file_above(path)} is a file, not a folder: name a file elsewhere"
     if not os.path.isdir(folder):
         return f"there is no folder {folder}: mkdir -p {shlex.quote(folder)}"
     place = path if os.path.exists(path) else folder

@@ -25,48 +25,48 @@ SENTENCES: Mapping[str, str] = {
     # The words.
     "NoCommand": "rezovamy was given no command: rezovamy --help lists them",
     "UnknownCommand at={at}": (
-        "word {at} is no command ({counted}): rezovamy --help lists them; --help and --version "
+        "word {at} isn't a command ({counted}): rezovamy --help lists them; --help and --version "
         "stand alone"
     ),
     "MissingPositional at={at}": (
         "an argument is missing: rezovamy record BUNDLE < SESSION, or rezovamy sample N BUNDLE"
     ),
     "BadNumber at={at}": (
-        "the number of tests of `sample` is no whole number from 0 to 10000: rezovamy sample 80 "
-        "BUNDLE"
+        "the number of tests of `sample` must be a whole number from 0 to 10000: rezovamy sample "
+        "80 BUNDLE"
     ),
     "UnknownOption at={at}": (
-        "word {at} is no option of the command ({counted}); a file is no word, but read from "
-        "standard input: rezovamy info < FILE"
+        "word {at} isn't an option of the command ({counted}); a file comes from standard input: "
+        "rezovamy info < FILE"
     ),
     "RepeatedOption at={at}": (
-        "the option that is word {at} stands there twice ({counted}): leave one out"
+        "the option that is word {at} comes twice ({counted}): leave one out"
     ),
     "MissingValue at={at}": (
-        "the last option has no value: word {at} has to be one ({counted}), as in --read-limit "
+        "the last option has no value: add it as word {at} ({counted}), as in --read-limit "
         "1000000"
     ),
     "BadValue at={at}": (
-        "word {at} is no value of the option before it ({counted}): limits are decimal digits "
-        "alone, and rezovamy --help has the words of the others"
+        "word {at} isn't a value of the option before it ({counted}): a limit is decimal digits, "
+        "and rezovamy --help has the words of the others"
     ),
     # What a session becomes.
     "SourceFault": (
-        "standard input could not be read: hand over a file or a pipe, as in rezovamy info < FILE"
+        "standard input could not be read: pass a file or a pipe, as in rezovamy info < FILE"
     ),
     "SessionTooLarge limit={limit}": (
         "the session has more than {limit} bytes: the option --session-limit of `record` raises "
         "that"
     ),
     "ParseHead": (
-        "line 1 is no head of a session: `record` takes what session_from_libtest prints; "
+        "line 1 isn't the head of a session: `record` reads what session_from_libtest prints; "
         "docs/FORMATS.md describes the head"
     ),
     "ReadRunLog line_number={line_number}": (
         "line {line_number} isn't UTF-8: sessions and logs are text, so ask the tool that wrote it"
     ),
     "ParseEvent line_number={line_number}": (
-        "line {line_number} is neither blank nor an event: hold it against the table of kinds in "
+        "line {line_number} is neither blank nor an event: compare it with the table of kinds in "
         "docs/FORMATS.md"
     ),
     "NameCollision file_name={file_name}": (
@@ -75,7 +75,7 @@ SENTENCES: Mapping[str, str] = {
     ),
     "FileTooLarge file_name={file_name} size={size} limit={limit}": (
         "{file_name} has {size} bytes, and {limit} may be read: the option --read-limit {size} "
-        "takes it"
+        "allows it"
     ),
     "MissingTestStart event={event} binary_id={binary_id} test_name={test_name}": (
         "event {event} is of the test {binary_id} {test_name}, which doesn't run at that point: "
@@ -113,9 +113,9 @@ SENTENCES: Mapping[str, str] = {
     ),
     "CountOutOfRange event={event}": "event {event} counts more than 64 bits: {contradicts}",
     "BundleFault": (
-        "the bundle could not be written whole, and a part of it may be left: see that its folder "
-        "is there and may be written, that BUNDLE is no folder, and that the disk and `ulimit -f` "
-        "have room for it"
+        "the bundle could not be written whole, and a part of it may be left: check that its "
+        "folder is there and can be written, that BUNDLE isn't a folder, and that the disk and "
+        "`ulimit -f` have room for it"
     ),
     "TraceFault": (
         "the bundle was written, but not the trace: see where standard output goes, and whether "
@@ -127,7 +127,7 @@ SENTENCES: Mapping[str, str] = {
         "written"
     ),
     "OutOfMemory": (
-        "memory ran out: close other programs or raise the limit of memory; a run takes about "
+        "memory ran out: close other programs or raise the limit of memory; a run needs about "
         "three times its session"
     ),
     "AllocError": "memory ran out for the words: close other programs or raise the limit of memory",
@@ -136,7 +136,7 @@ SENTENCES: Mapping[str, str] = {
         "the bundle has more than {limit} bytes: the option --session-limit raises that"
     ),
     "ReadArchive fault=BadMagic": (
-        "this is no bundle, or its store is broken: rezovamy record BUNDLE < SESSION makes a "
+        "this isn't a bundle, or its store is broken: rezovamy record BUNDLE < SESSION makes a "
         "bundle"
     ),
     "ReadArchive fault=Truncated at={at}": (
@@ -145,19 +145,17 @@ SENTENCES: Mapping[str, str] = {
     ),
     "ReadArchive fault=BadTag at={at}": "byte {at} begins no entry: {damaged}",
     "ReadArchive fault=BadName at={at}": "the name of an entry at byte {at} isn't text: {damaged}",
-    "ReadArchive fault=DuplicateName at={at}": (
-        "the name at byte {at} stands there twice: {damaged}"
-    ),
+    "ReadArchive fault=DuplicateName at={at}": ("the name at byte {at} comes twice: {damaged}"),
     "ReadArchive fault=TrailingBytes at={at}": (
-        "more stands after the end, from byte {at} on: {damaged}"
+        "there is more after the end, from byte {at} on: {damaged}"
     ),
     "NotAWrapperArchive file_count={file_count} zip_count={zip_count}": (
-        "this is no bundle, since none of its entries is manifest.json: hand over the whole file "
-        "that `record` wrote"
+        "this isn't a bundle, since it has no entry manifest.json: pass the whole file that "
+        "`record` wrote"
     ),
     "ParseManifest": (
-        "manifest.json of the bundle is no manifest: docs/FORMATS.md describes it, so ask the tool "
-        "that wrote it"
+        "manifest.json of the bundle isn't a manifest: docs/FORMATS.md describes it, so ask the "
+        "tool that wrote it"
     ),
     FORMAT_VERSION
     + "MajorMismatch"
@@ -173,14 +171,14 @@ SENTENCES: Mapping[str, str] = {
     + MAJORS
     + " guidance=Discard last_nextest_version={last}": (
         "the store has format {found}, which ended with nextest {last}, and this rezovamy reads "
-        "{supported}: record the tests anew"
+        "{supported}: record the tests again"
     ),
     STORE_VERSION
     + "RecordingTooOld"
     + MAJORS
     + " guidance=Unknown": (
-        "the store has format {found}, of which nothing is known, and this rezovamy reads "
-        "{supported}: record the tests anew"
+        "the store has the unknown format {found}, and this rezovamy reads "
+        "{supported}: record the tests again"
     ),
     STORE_VERSION
     + "RecordingTooNew"
@@ -203,7 +201,7 @@ SENTENCES: Mapping[str, str] = {
         "{file_name} in the store isn't UTF-8: ask the tool that wrote the bundle"
     ),
     "ForeignEntry file_name={file_name}": (
-        "{file_name} has no place in a bundle of today: `upgrade` takes a bundle of manifest, log "
+        "{file_name} has no place in a bundle of today: `upgrade` reads a bundle of manifest, log "
         "and store alone, whose store has metadata and the outputs of its events"
     ),
     "CountOutOfRange": "what is to be written is longer than 64 bits count: take a smaller bundle",
@@ -255,8 +253,8 @@ SENTENCES: Mapping[str, str] = {
         "line {line_number} of the bundle's log isn't UTF-8: {damaged}"
     ),
     "ReadError ParseEvent line_number={line_number}": (
-        "line {line_number} of the bundle's log is no event: hold it against the table of kinds in "
-        "docs/FORMATS.md"
+        "line {line_number} of the bundle's log isn't an event: compare it with the table of kinds "
+        "in docs/FORMATS.md"
     ),
     "TestNotFound binary_id={binary_id} test_name={test_name}": (
         "the test {binary_id} {test_name} ran, and the test list of the head lacks it: add it "
@@ -272,7 +270,7 @@ SENTENCES: Mapping[str, str] = {
     ),
     "RecordRead FileTooLarge file_name={file_name} size={size} limit={limit}": (
         "the output {file_name} has {size} bytes, and {limit} may be read: the option --read-limit "
-        "{size} takes it"
+        "{size} allows it"
     ),
     "SuccessAsFailure": (
         "an attempt of a test follows one that passed, so there is no report: ask the tool that "

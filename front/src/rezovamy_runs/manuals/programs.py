@@ -33,7 +33,7 @@ RECORDING = {
     ),
     "sample": ("record a generated session of N tests into BUNDLE", ("N", "BUNDLE")),
     "upgrade": (
-        "write the bundle on standard input anew into BUNDLE, as it would be recorded today",
+        "write the bundle on standard input again into BUNDLE, as it would be recorded today",
         ("BUNDLE",),
     ),
     "salvage": (
