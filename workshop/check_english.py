@@ -4,8 +4,8 @@
 
 It prints each sentence of more than 25 words and each word of `OBSCURE` as `FILE:LINE: WHAT`.
 Fenced blocks don't count. A code span counts as one word of a sentence, and as none in a table. Of
-what the front end says of the program's fault lines it prints the obscure words alone, by the line.
-The status is 1 if anything was found.
+`--help` and of what the front end says of a fault line it prints the obscure words alone, by the
+command or the line. The status is 1 if anything was found.
 """
 
 from __future__ import annotations
@@ -19,6 +19,8 @@ from pathlib import Path
 
 from rezovamy_runs.command_line import command_line
 from rezovamy_runs.faults.sentences import PHRASES, SENTENCES
+from rezovamy_runs.manuals.programs import programs
+from rezovamy_runs.manuals.tables import Program
 
 from workshop import TOP
 from workshop.check_width import prose_lines
@@ -128,10 +130,23 @@ def message_faults(messages: Mapping[str, str]) -> Iterator[str]:
         yield from (f"{name}: {finding.what}" for finding in obscure_words(message))
 
 
+def help_texts(program: Program, before: str = "") -> Iterator[tuple[str, str]]:
+    """Yield each text of a program's `--help` with the words that it is of."""
+    name = before + program.name
+    yield name, program.about
+    for option in program.options:
+        yield f"{name} {option.names[0]}", option.help
+    for operand in program.operands:
+        yield f"{name} {operand.value}", operand.help
+    for command in program.commands:
+        yield from help_texts(command, f"{name} ")
+
+
 def main() -> int:
     """Print what is wrong, and return the status."""
     command_line(__doc__).parse_args()
-    lines = [*faults(TOP), *message_faults({**PHRASES, **SENTENCES})]
+    helps = {name: text for program in programs() for name, text in help_texts(program)}
+    lines = [*faults(TOP), *message_faults({**PHRASES, **SENTENCES, **helps})]
     print("".join(f"{line}\n" for line in lines), end="")
     return int(bool(lines))
 

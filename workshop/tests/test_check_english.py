@@ -6,10 +6,12 @@ import pathlib
 
 import pytest
 
+from rezovamy_runs.manuals.programs import programs
 from workshop import check_english
 from workshop.check_english import (
     LONGEST_SENTENCE,
     faults,
+    help_texts,
     long_sentences,
     message_faults,
     obscure_words,
@@ -103,6 +105,13 @@ def test_pages_in_folders_of_docs_are_read(top: pathlib.Path) -> None:
 def test_a_message_has_no_obscure_words() -> None:
     messages = {"A at={at}": "it is no word: take it", "B": LONG, "C": "`takes` what it gives"}
     assert list(message_faults(messages)) == ["A at={at}: `is no`", "C: `gives`"]
+
+
+def test_the_texts_of_help_are_those_of_each_command() -> None:
+    (front,) = [program for program in programs() if program.name == "rezovamy-runs"]
+    texts = dict(help_texts(front))
+    assert "compare" in " ".join(texts)
+    assert texts["rezovamy-runs compare --json"] == "print JSON for scripts"
 
 
 def test_the_status_says_whether_there_are_any(

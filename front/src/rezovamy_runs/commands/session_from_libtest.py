@@ -12,7 +12,7 @@ r"""Makes a session of the JSON lines that a real test run prints.
 Each event has the instant at which its line came, and a test starts as much before its end as its
 `exec_time` says. With `--no-clock` a test ends its `exec_time` after its start, and starts where
 the latest end so far is, so that the same lines give the same session. A test that ran when its
-binary ended has failed, and so has a target that cargo says failed. Lines that are no event go to
+binary ended has failed, and so has a target that cargo says failed. Lines that aren't events go to
 standard error. The session is printed once the input has ended, since its first line lists the
 tests.
 
@@ -100,7 +100,7 @@ def words_parser() -> argparse.ArgumentParser:
         "--build-error",
         choices=("test", "status"),
         default="test",
-        help="a build that failed is a failed test (test), or gives no session and status 3",
+        help="a build that failed is a failed test (test), or makes no session and status 3",
     )
     parser.add_argument(
         "--manifest-path",
