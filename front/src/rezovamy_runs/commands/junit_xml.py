@@ -12,8 +12,9 @@ cut. The files are valid by the schema that the xUnit plugin of Jenkins has; `--
 adds what only `cargo nextest` writes.
 
 Status 0: the files were written. 1: a line isn't a report, or something can't be read or written,
-and no file is there. 2: the options are wrong, and nothing was touched. 3: there is no report, and no
-file. 4: with `--fail`, the files were written, and a test failed in one of them, or has an error.
+and no file is there. 2: the options are wrong, and nothing was touched. 3: there is no report, and
+no file. 4: with `--fail`, the files were written, and a test failed in one of them, or has an
+error.
 
 Nothing of this is proved.
 """
