@@ -97,7 +97,7 @@ def run(
         )
     except OSError as error:
         raise Fault(
-            f"{path} can't be run: {error.strerror}; build it again, or name another in REZOVAMY"
+            f"{path} can't be run: {error.strerror}; build it anew, or name another in REZOVAMY"
         ) from error
     if done.returncode != 0:
         line = done.stderr.decode("utf-8", "replace").strip()
