@@ -9,3 +9,4 @@ pub mod Reruns
 pub mod RunParts
 pub mod Stores
 pub mod Slots
+pub mod Views

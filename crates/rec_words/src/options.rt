@@ -30,6 +30,8 @@ pub enum CommandName {
     Slots,
     /// `rerun`
     Rerun,
+    /// `view`
+    View,
     /// `sample`
     Sample,
     /// `upgrade`
@@ -67,6 +69,7 @@ impl CommandName {
             | CommandName::Info
             | CommandName::Slots
             | CommandName::Rerun
+            | CommandName::View
             | CommandName::Upgrade
             | CommandName::Salvage
             | CommandName::Live
@@ -86,6 +89,7 @@ impl CommandName {
             | CommandName::Info
             | CommandName::Slots
             | CommandName::Rerun
+            | CommandName::View
             | CommandName::Upgrade
             | CommandName::Salvage
             | CommandName::Pack => false,
@@ -104,6 +108,7 @@ impl CommandName {
             | CommandName::Info
             | CommandName::Slots
             | CommandName::Rerun
+            | CommandName::View
             | CommandName::Sample
             | CommandName::Upgrade
             | CommandName::Salvage
@@ -125,6 +130,7 @@ impl CommandName {
             | CommandName::Info
             | CommandName::Slots
             | CommandName::Rerun
+            | CommandName::View
             | CommandName::Sample
             | CommandName::Upgrade
             | CommandName::Salvage => true,
@@ -144,7 +150,8 @@ impl CommandName {
             | CommandName::Report
             | CommandName::Info
             | CommandName::Slots
-            | CommandName::Rerun => 1,
+            | CommandName::Rerun
+            | CommandName::View => 1,
         }
     }
 }

@@ -49,6 +49,10 @@ pub enum Command<'w> {
     Rerun {
         settings: Settings,
     },
+    /// Prints what a viewer wants to know of the run in the bundle on standard input.
+    View {
+        settings: Settings,
+    },
     /// Records a generated session of `n` tests, at most 10000, into the file `bundle`.
     Sample {
         n: u64,
@@ -117,6 +121,7 @@ fn command_named(word: &str) -> Option<CommandName>
         "info" => Some(CommandName::Info),
         "slots" => Some(CommandName::Slots),
         "rerun" => Some(CommandName::Rerun),
+        "view" => Some(CommandName::View),
         "sample" => Some(CommandName::Sample),
         "upgrade" => Some(CommandName::Upgrade),
         "salvage" => Some(CommandName::Salvage),
@@ -154,6 +159,10 @@ fn read_command(name: CommandName, words: &[String]) -> Result<Command<'_>, Word
         CommandName::Rerun => {
             let settings = read_settings(CommandName::Rerun, words)?;
             Ok(Command::Rerun { settings })
+        }
+        CommandName::View => {
+            let settings = read_settings(CommandName::View, words)?;
+            Ok(Command::View { settings })
         }
         CommandName::Sample => read_sample(words),
         CommandName::Upgrade => read_upgrade(words),
