@@ -72,7 +72,7 @@ module _ {S B F D T G : Type 0} (o : Objects S B F D T G) (bytes : List ℕ) whe
       printed settings _ _ (λ es manifest text p. (p.0, p.2, p.3, reported _ p.1 p.4)) has s
   only_accepted number (rerunning settings) has s =
       printed settings _ _ (λ es manifest text p. (p.0, p.1)) has s
-  only_accepted number (viewing settings) has s =
+  only_accepted number (viewing output settings) has s =
       printed settings _ _ (λ es manifest text p. (text, p)) has s
   only_accepted number (sampling n path settings) has s =
       subst (λ (b : List ℕ). IsValid number settings b) (sym has) (s.0.2, s.0.3.valid)

@@ -459,10 +459,12 @@ module _ {S T G : Type 0} (left : S → Option (List ℕ)) (source_faults : S �
         → ShowsReading PrintsReport → (status ≡ 0) ⊎ (status ≡ 70)
     report_or_memory manifest text h made = printed_or_memory report_of text manifest h made
 
-    pub view_or_memory : (manifest : PortableManifest) (text : List ℕ)
-        → judged settings.read_limit es ≡ Ok manifest → view_of settings.read_limit es ≡ Ok text
-        → ShowsReading PrintsView → (status ≡ 0) ⊎ (status ≡ 70)
-    view_or_memory manifest text h made = printed_or_memory view_of text manifest h made
+    pub view_or_memory : (output : LoadOutput) (manifest : PortableManifest) (text : List ℕ)
+        → judged settings.read_limit es ≡ Ok manifest
+        → view_of output settings.read_limit es ≡ Ok text
+        → ShowsReading (PrintsView output) → (status ≡ 0) ⊎ (status ≡ 70)
+    view_or_memory output manifest text h made =
+        printed_or_memory (view_of output) text manifest h made
 
     pub slots_or_memory : (manifest : PortableManifest) (log : List ℕ)
         → judged settings.read_limit es ≡ Ok manifest → log_part settings.read_limit es ≡ Ok log

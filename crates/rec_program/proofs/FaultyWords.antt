@@ -59,7 +59,7 @@ module _ {S B F D T G : Type 0} (o : Objects S B F D T G) (status : ℕ) where
   asks number (informing settings) r = reads PrintsInfo settings r
   asks number (slotting settings) r = reads PrintsSlots settings r
   asks number (rerunning settings) r = reads PrintsRerun settings r
-  asks number (viewing settings) r = reads PrintsView settings r
+  asks number (viewing output settings) r = reads (PrintsView output) settings r
   asks number (sampling n path settings) (inl r, kept) = prints r.0 r.2
   asks number (sampling n path settings) (inr r, kept) =
       above (export_status r.0) (export_above r.0) r.3.0

@@ -108,8 +108,8 @@ module _ {S B F D T G : Type 0} (o : Objects S B F D T G) (status : ℕ) where
   succeeds number (rerunning settings) zeroed runs =
       shows PrintsRerun settings _
       (λ es manifest text h p. (manifest, h, (p.0, p.1, p.2))) zeroed runs
-  succeeds number (viewing settings) zeroed runs =
-      shows PrintsView settings _ (λ es manifest text h p. (manifest, h, p)) zeroed runs
+  succeeds number (viewing output settings) zeroed runs =
+      shows (PrintsView output) settings _ (λ es manifest text h p. (manifest, h, p)) zeroed runs
   succeeds number (sampling n path settings) zeroed runs =
       sampled o.bundle.taken o.bundle.faults o.out.taken o.out.faults o.diag.taken o.diag.faults
       number settings (sample_session n) status o.b0 o.b1 o.o0 o.o1 o.d0 o.d1 zeroed runs.0
@@ -194,10 +194,10 @@ module _ {S B F D T G : Type 0} (o : Objects S B F D T G) (status : ℕ) where
       rerun_or_memory o.source.left o.source.faults o.out.taken o.out.faults o.diag.taken
       o.diag.faults settings status o.s0 o.s1 o.o0 o.o1 o.d0 o.d1
       bytes a.1.0 has a.0 a.1.2 well.0 well.1 a.1.4.0 a.1.4.1 runs.0
-  completes number (viewing settings) bytes has a well runs =
+  completes number (viewing output settings) bytes has a well runs =
       view_or_memory o.source.left o.source.faults o.out.taken o.out.faults o.diag.taken
       o.diag.faults settings status o.s0 o.s1 o.o0 o.o1 o.d0 o.d1
-      bytes a.1.0 has a.0 a.1.2 well.0 well.1 a.1.1 a.1.4.0 a.1.3 a.1.4.1 runs.0
+      bytes a.1.0 has a.0 a.1.2 well.0 well.1 output a.1.1 a.1.4.0 a.1.3 a.1.4.1 runs.0
   completes number (sampling n path settings) bytes has a well runs =
       let within = subst (λ (s : List ℕ). length s ≤ settings.session_limit) has a.0 in
       let valid = ap (session_refusal number settings) (sym has) ∙ a.1 in

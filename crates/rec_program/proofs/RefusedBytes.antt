@@ -200,8 +200,8 @@ module _ {S B F D T G : Type 0} (o : Objects S B F D T G) (status : ℕ) (bytes 
       reads PrintsSlots settings has well.0 well.1 runs
   only_refused number (rerunning settings) has well runs =
       reads PrintsRerun settings has well.0 well.1 runs
-  only_refused number (viewing settings) has well runs =
-      reads PrintsView settings has well.0 well.1 runs
+  only_refused number (viewing output settings) has well runs =
+      reads (PrintsView output) settings has well.0 well.1 runs
   only_refused number (sampling n path settings) has well (inl r, kept) = printed r.0 well.1 r.2
   only_refused number (sampling n path settings) has well (inr (e, inl f, out, refused), kept) =
       subst (λ (b : List ℕ). Refused settings (RefusesSession number settings) b status) (sym has)

@@ -91,8 +91,8 @@ module _ {S B F D T G : Type 0} (o : Objects S B F D T G) where
   Succeeds number (rerunning settings) =
       Shows settings (λ es manifest text. (run : RerunParts)
       × (rerun_parts_of settings.read_limit es ≡ Ok run) × PrintsSelection run text)
-  Succeeds number (viewing settings) =
-      Shows settings (λ es manifest text. view_of settings.read_limit es ≡ Ok text)
+  Succeeds number (viewing output settings) =
+      Shows settings (λ es manifest text. view_of output settings.read_limit es ≡ Ok text)
   Succeeds number (sampling n path settings) =
       TakesSample o.bundle.taken number settings (sample_session n) o.b0 o.b1
       × OutTook o (session_counts number settings (sample_session n))
@@ -188,8 +188,8 @@ Accepts number (slotting settings) bytes =
 Accepts number (rerunning settings) bytes =
     IsBundle settings
     (λ es. (run : RerunParts) × (rerun_parts_of settings.read_limit es ≡ Ok run)) bytes
-Accepts number (viewing settings) bytes =
-    IsBundle settings (λ es. (text : List ℕ) × (view_of settings.read_limit es ≡ Ok text)) bytes
+Accepts number (viewing output settings) bytes =
+    IsBundle settings (λ es. (text : List ℕ) × (view_of output settings.read_limit es ≡ Ok text)) bytes
 Accepts number (sampling n path settings) bytes = IsValid number settings bytes
 Accepts number (upgrading path settings) bytes =
     (length bytes ≤ settings.session_limit)

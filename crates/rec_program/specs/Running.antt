@@ -237,7 +237,7 @@ module _ {S B F D T G : Type 0} (o : Objects S B F D T G) (status : ℕ) where
   Runs number (Ok (informing settings)) = ShowsReading PrintsInfo settings
   Runs number (Ok (slotting settings)) = ShowsReading PrintsSlots settings
   Runs number (Ok (rerunning settings)) = ShowsReading PrintsRerun settings
-  Runs number (Ok (viewing settings)) = ShowsReading PrintsView settings
+  Runs number (Ok (viewing output settings)) = ShowsReading (PrintsView output) settings
   Runs number (Ok (sampling n path settings)) =
       RecordsSample o.bundle.taken o.bundle.faults o.out.taken o.out.faults o.diag.taken
       o.diag.faults number settings (sample_session n) status o.b0 o.b1 o.o0 o.o1 o.d0 o.d1

@@ -54,7 +54,8 @@ Refuses number (reporting settings) = Refused settings (RefusesBundle PrintsRepo
 Refuses number (informing settings) = Refused settings (RefusesBundle PrintsInfo settings)
 Refuses number (slotting settings) = Refused settings (RefusesBundle PrintsSlots settings)
 Refuses number (rerunning settings) = Refused settings (RefusesBundle PrintsRerun settings)
-Refuses number (viewing settings) = Refused settings (RefusesBundle PrintsView settings)
+Refuses number (viewing output settings) =
+    Refused settings (RefusesBundle (PrintsView output) settings)
 Refuses number (sampling n path settings) = Refused settings (RefusesSession number settings)
 Refuses number (upgrading path settings) =
     Refused settings (λ bytes status. (e : UpgradeError) × IsRefused bytes settings.read_limit e

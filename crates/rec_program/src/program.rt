@@ -253,9 +253,12 @@ fn run<S: Source, B: Sink, F: Sink, D: Disk, T: Sink, G: Sink>(
             );
             Ended { status, streams }
         }
-        Ok(Command::View { settings }) => {
+        Ok(Command::View { output, settings }) => {
+            let printer = View {
+                load_output: output,
+            };
             let status = show(
-                read_bundle(alloc, &settings, &mut streams.source, &View),
+                read_bundle(alloc, &settings, &mut streams.source, &printer),
                 &mut streams.out,
                 &mut streams.diag,
             );

@@ -11,4 +11,6 @@ pub mod Reported
 pub mod RerunRead
 pub mod ManifestListed
 mod SlotsRead
+mod StoreEntries
+mod OutputsPrinted
 mod ViewRead

@@ -100,12 +100,15 @@ impl BundleText for Slots {
 
 /// Prints a view of the run, as [`view_text`] makes it.
 #[derive(Drop)]
-pub struct View;
+pub struct View {
+    /// Whether outputs are read.
+    pub load_output: LoadOutput,
+}
 
 impl BundleText for View {
-    ghost prints = { λ _. PrintsView };
+    ghost prints = { λ view. PrintsView view.load_output };
 
     fn text(&self, alloc: Global, bundle: &PortableRecording) -> Result<Vec<u8>, ReadingError> {
-        view_text(alloc, bundle)
+        view_text(alloc, bundle, self.load_output)
     }
 }

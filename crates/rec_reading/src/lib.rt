@@ -5,6 +5,7 @@
 mod bundle_text;
 mod events;
 mod info;
+mod outputs;
 mod parts;
 mod printer;
 mod registration;

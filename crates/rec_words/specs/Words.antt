@@ -38,7 +38,7 @@ pub data Asked : Type 0 where
   informing : Settings → Asked
   slotting : Settings → Asked
   rerunning : Settings → Asked
-  viewing : Settings → Asked
+  viewing : LoadOutput → Settings → Asked
   sampling : ℕ → List ℕ → Settings → Asked
   upgrading : List ℕ → Settings → Asked
   salvaging : List ℕ → Settings → Asked
@@ -61,7 +61,7 @@ asked (commands.Report settings) = reporting settings
 asked (commands.Info settings) = informing settings
 asked (commands.Slots settings) = slotting settings
 asked (commands.Rerun settings) = rerunning settings
-asked (commands.View settings) = viewing settings
+asked (commands.View output settings) = viewing output settings
 asked (commands.Sample n bundle settings) = sampling n bundle.now settings
 asked (commands.Upgrade bundle settings) = upgrading bundle.now settings
 asked (commands.Salvage bundle settings) = salvaging bundle.now settings
@@ -123,7 +123,9 @@ command_after Report words = settings_from Report words >>= (λ settings. Ok (re
 command_after Info words = settings_from Info words >>= (λ settings. Ok (informing settings))
 command_after Slots words = settings_from Slots words >>= (λ settings. Ok (slotting settings))
 command_after Rerun words = settings_from Rerun words >>= (λ settings. Ok (rerunning settings))
-command_after View words = settings_from View words >>= (λ settings. Ok (viewing settings))
+command_after View words =
+    values_from View no_values (options_at View) words
+    >>= (λ values. Ok (viewing (load_of values) (settings_of values)))
 command_after Sample [] = Err (MissingPositional 1)
 command_after Sample (number ∷ words) =
     ok_or (tests_of number) (BadNumber 1) >>= (λ n. sample_after n words)

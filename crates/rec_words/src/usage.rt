@@ -29,7 +29,8 @@ run took and how long each of its slots was busy, paused and idle, all in
 nanoseconds. rerun prints which tests are to run again after a run: a line of
 JSON, and then a line for each test of its list that runs again, that is
 skipped, or that is to run again but is no longer listed. view prints one line
-of JSON with each test, what became of it, and its attempts with their times.
+of JSON with each test, what became of it, and its attempts with their times;
+then the outputs, of each a line with its path and its length, and its bytes.
 
 sample makes a session of N tests, at most 10000, and writes it into the file
 BUNDLE as record does. It prints how many events and outputs were written.
@@ -58,8 +59,8 @@ Options, each at most once, with a value after it; limits are in bytes:
   --read-limit      of all but live and pack: the most of the manifest, of the
                     log and of an entry of the store (268435456)
   --session-limit   the most of standard input that is read (268435456)
-  --output          of replay alone: load reads the outputs of tests, and skip
-                    leaves them out (load)
+  --output          of replay and view: load reads the outputs of tests, and
+                    skip leaves them out (load)
 
 Other words, each of them alone:
   --help     prints this text

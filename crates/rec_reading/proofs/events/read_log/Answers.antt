@@ -10,4 +10,4 @@ returns-in_err-log c = λ es is.
 pub returns : goal.returns
 returns c = λ es is.
     log-read c.args.bundle.now.limit es c.in_ok-log.log (c.in_ok-log.ensures es is)
-    c.events.result c.events.ensures c.read_events-result.result c.read_events-result.ensures
+    c.events.result c.events.ensures c.read_events.result c.read_events.ensures
