@@ -189,7 +189,8 @@ Accepts number (rerunning settings) bytes =
     IsBundle settings
     (λ es. (run : RerunParts) × (rerun_parts_of settings.read_limit es ≡ Ok run)) bytes
 Accepts number (viewing output settings) bytes =
-    IsBundle settings (λ es. (text : List ℕ) × (view_of output settings.read_limit es ≡ Ok text)) bytes
+    IsBundle settings
+    (λ es. (text : List ℕ) × (view_of output settings.read_limit es ≡ Ok text)) bytes
 Accepts number (sampling n path settings) bytes = IsValid number settings bytes
 Accepts number (upgrading path settings) bytes =
     (length bytes ≤ settings.session_limit)

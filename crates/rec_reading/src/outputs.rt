@@ -28,7 +28,8 @@ use std::alloc::{AllocError, Global};
 /// The first in this order:
 ///
 /// - `Bundle` with `MissingFile` or `ReadArchive` for the store.
-/// - `Conversion` with `FileNotFound` for the first output that an event names and that isn't there.
+/// - `Conversion` with `FileNotFound` for the first output that an event names, and that the store
+///   lacks.
 /// - `OutputChanged` for the first output whose name isn't that of its bytes.
 ///
 /// `OutOfMemory` may come at any time. What is left of the text then is not said.

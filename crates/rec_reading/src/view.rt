@@ -15,8 +15,8 @@ use rec_replay::LoadOutput;
 use std::alloc::{AllocError, Global};
 
 /// Writes what a viewer wants to know of a bundle's run, as one line of compact JSON and LF.
-/// `docs/FORMATS.md#view` describes it. Any events have a view. With `Load` the outputs of the store
-/// stand behind it, each held against its name.
+/// `docs/FORMATS.md#view` describes it. Any events have a view. With `Load` the outputs of the
+/// store stand behind it, each held against its name.
 ///
 /// # Errors
 ///
