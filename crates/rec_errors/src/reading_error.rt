@@ -5,6 +5,7 @@ ghost use Rattle.rec_errors.specs.ReadingErrors.{bundle_error, conversion_error,
 ghost use Rattle.rec_errors.specs.ReadingErrors.{part_error, report_error, slot_error, trace_error};
 
 use rec_codec::LineError;
+use rec_events::Text;
 use rec_junit::JunitError;
 use rec_portable::PortableRecordingReadError;
 use rec_replay::ReplayConversionError;
@@ -43,6 +44,12 @@ pub enum ReadingError {
     /// The events have no report of their slots.
     #[error(transparent)]
     Slots(SlotError),
+    /// The name of an output isn't that of its bytes.
+    #[error("the output {} isn't what its name says", .file_name.as_str())]
+    OutputChanged {
+        /// The path of the output in the store.
+        file_name: Text,
+    },
     /// Memory ran out.
     #[error("out of memory")]
     OutOfMemory,

@@ -150,4 +150,6 @@ reading_shown (reading.Line e) = line_shown e
 reading_shown (reading.Conversion e) = conversion_shown e
 reading_shown (reading.Report e) = junit_shown e
 reading_shown (reading.Slots e) = slots_shown e
+reading_shown (reading.OutputChanged file_name) =
+    variant (codes "OutputChanged") (field (codes "file_name") (text file_name) no_fields)
 reading_shown reading.OutOfMemory = variant (codes "OutOfMemory") no_fields

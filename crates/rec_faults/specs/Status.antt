@@ -134,4 +134,5 @@ reading_status (reading.Line e) = export_status (line_fault e)
 reading_status (reading.Conversion e) = conversion_status e
 reading_status (reading.Report e) = junit_status e
 reading_status (reading.Slots e) = slots_status e
+reading_status (reading.OutputChanged file_name) = 13
 reading_status reading.OutOfMemory = 70

@@ -5,7 +5,7 @@ ghost use Rattle.rec_faults.specs.Status.{reading_status};
 
 use crate::line::Line;
 use crate::refusal::Refusal;
-use crate::status::OUT_OF_MEMORY;
+use crate::status::{NO_EVENT, OUT_OF_MEMORY};
 use rec_container::Sink;
 use rec_errors::ReadingError;
 
@@ -23,6 +23,9 @@ impl Refusal for ReadingError {
             ReadingError::Conversion(error) => error.write(line, diag),
             ReadingError::Report(error) => error.write(line, diag),
             ReadingError::Slots(error) => error.write(line, diag),
+            ReadingError::OutputChanged { file_name } => {
+                line.text("OutputChanged file_name=", file_name.as_str(), diag)
+            }
             ReadingError::OutOfMemory => line.name("OutOfMemory", diag),
         }
     }
@@ -36,6 +39,7 @@ impl Refusal for ReadingError {
             ReadingError::Conversion(error) => error.status(),
             ReadingError::Report(error) => error.status(),
             ReadingError::Slots(error) => error.status(),
+            ReadingError::OutputChanged { .. } => NO_EVENT,
             ReadingError::OutOfMemory => OUT_OF_MEMORY,
         }
     }

@@ -24,7 +24,7 @@ pub const BUNDLE_FAILED: u8 = 10;
 pub const OUTPUT_FAILED: u8 = 11;
 /// Means that the bytes on standard input are no bundle that is read.
 pub const NO_BUNDLE: u8 = 12;
-/// Means that an event can't be replayed or reported.
+/// Means that an event can't be replayed or reported, or an output can't be shown.
 pub const NO_EVENT: u8 = 13;
 /// Means that the events of a log aren't those of one run whose slots can be reported.
 pub const NO_USAGE: u8 = 14;

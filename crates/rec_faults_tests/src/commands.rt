@@ -24,6 +24,14 @@ fn asked(command: Command<'_>) -> Option<(&'static str, &str, Settings)> {
         Command::Info { settings } => Some(("info", "none", settings)),
         Command::Slots { settings } => Some(("slots", "none", settings)),
         Command::Rerun { settings } => Some(("rerun", "none", settings)),
+        Command::View {
+            output: LoadOutput::Load,
+            settings,
+        } => Some(("view", "none", settings)),
+        Command::View {
+            output: LoadOutput::Skip,
+            settings,
+        } => Some(("view-skip", "none", settings)),
         Command::Sample {
             n: _,
             bundle,
@@ -112,6 +120,9 @@ slots|none|slots none 10485760 268435456 268435456 Binary Json
 slots --session-limit 3 --read-limit 2|none|slots none 10485760 2 3 Binary Json
 rerun|none|rerun none 10485760 268435456 268435456 Binary Json
 rerun --read-limit 2|none|rerun none 10485760 2 268435456 Binary Json
+view|none|view none 10485760 268435456 268435456 Binary Json
+view --output skip|none|view-skip none 10485760 268435456 268435456 Binary Json
+view --session-limit 3 --read-limit 2|none|view none 10485760 2 3 Binary Json
 upgrade b|b|upgrade b 10485760 268435456 268435456 Binary Json
 upgrade b --read-limit 2|b|upgrade b 10485760 2 268435456 Binary Json
 upgrade --read-limit --session-limit 3|--read-limit|\
@@ -131,6 +142,8 @@ rec b|none|a fault
 record b x|none|a fault
 sample 10001 b|none|a fault
 slots --max-output 1|none|a fault
+view b|none|a fault
+view --max-output 1|none|a fault
 upgrade b --max-output 1|none|a fault
 salvage|none|a fault
 "

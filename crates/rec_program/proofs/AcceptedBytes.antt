@@ -13,7 +13,7 @@ use Rattle.rec_export.proofs.Complete.{same_session}
 use Rattle.rec_export.specs.Bundle.{session_refusal}
 use Rattle.rec_export.specs.declared.settings.Settings.{Settings}
 use Rattle.rec_words.specs.Words.{Asked, recording, tracing, replaying}
-use Rattle.rec_words.specs.Words.{reporting, informing, slotting, rerunning}
+use Rattle.rec_words.specs.Words.{reporting, informing, slotting, rerunning, viewing}
 use Rattle.rec_words.specs.Words.{sampling, upgrading, salvaging, living, packing, help, version}
 use Rattle.rec_program.specs.Objects.{Objects, SourceGave}
 use Rattle.rec_program.specs.Promises.{Accepts, IsBundle, IsValid, Judges, Shows, Succeeds}
@@ -72,6 +72,8 @@ module _ {S B F D T G : Type 0} (o : Objects S B F D T G) (bytes : List ℕ) whe
       printed settings _ _ (λ es manifest text p. (p.0, p.2, p.3, reported _ p.1 p.4)) has s
   only_accepted number (rerunning settings) has s =
       printed settings _ _ (λ es manifest text p. (p.0, p.1)) has s
+  only_accepted number (viewing output settings) has s =
+      printed settings _ _ (λ es manifest text p. (text, p)) has s
   only_accepted number (sampling n path settings) has s =
       subst (λ (b : List ℕ). IsValid number settings b) (sym has) (s.0.2, s.0.3.valid)
   only_accepted number (upgrading path settings) has (counts, u) = (

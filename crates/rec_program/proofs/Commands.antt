@@ -43,13 +43,14 @@ use Rattle.rec_errors.specs.ReadingErrors.{bundle_error, line_error}
 use Rattle.rec_reading.specs.Converting.{unless_refused}
 use Rattle.rec_reading.specs.Listing.{PrintsInfo, PrintsReplay, PrintsReport, header_of}
 use Rattle.rec_reading.specs.Listing.{info_printed, manifest_line, printed, replay_of, report_of}
-use Rattle.rec_reading.specs.LogEvents.{events_of}
+use Rattle.rec_reading.specs.LogEvents.{events_of, run_events}
 use Rattle.rec_reading.specs.LogLines.{log_lines}
 use Rattle.rec_reading.specs.Printing.{before, line_prints}
 use Rattle.rec_reading.specs.Reruns.{PrintsRerun}
 use Rattle.rec_reading.specs.Reruns.{RerunParts, parts_after, rerun_parts_of}
 use Rattle.rec_reading.specs.RunParts.{of_bundle, parts_of}
-use Rattle.rec_reading.specs.Slots.{HasUsage, PrintsSlots, run_events, slot_lines}
+use Rattle.rec_reading.specs.Slots.{HasUsage, PrintsSlots, slot_lines}
+use Rattle.rec_reading.specs.Views.{PrintsView, view_of}
 use Rattle.rec_export.proofs.Complete.{same_session}
 use Rattle.rec_export.proofs.TimelinesDrawn.{draws_timeline}
 use Rattle.rec_export.specs.Bundle.{AreOf}
@@ -457,6 +458,13 @@ module _ {S T G : Type 0} (left : S → Option (List ℕ)) (source_faults : S �
         → judged settings.read_limit es ≡ Ok manifest → report_of settings.read_limit es ≡ Ok text
         → ShowsReading PrintsReport → (status ≡ 0) ⊎ (status ≡ 70)
     report_or_memory manifest text h made = printed_or_memory report_of text manifest h made
+
+    pub view_or_memory : (output : LoadOutput) (manifest : PortableManifest) (text : List ℕ)
+        → judged settings.read_limit es ≡ Ok manifest
+        → view_of output settings.read_limit es ≡ Ok text
+        → ShowsReading (PrintsView output) → (status ≡ 0) ⊎ (status ≡ 70)
+    view_or_memory output manifest text h made =
+        printed_or_memory (view_of output) text manifest h made
 
     pub slots_or_memory : (manifest : PortableManifest) (log : List ℕ)
         → judged settings.read_limit es ≡ Ok manifest → log_part settings.read_limit es ≡ Ok log

@@ -8,11 +8,12 @@ use Rattle.rec_errors.specs.declared.words_error.WordsError.{WordsError}
 use Rattle.rec_reading.specs.Listing.{PrintsInfo, PrintsReplay, PrintsReport}
 use Rattle.rec_reading.specs.Reruns.{PrintsRerun}
 use Rattle.rec_reading.specs.Slots.{PrintsSlots}
+use Rattle.rec_reading.specs.Views.{PrintsView}
 use Rattle.rec_export.specs.declared.settings.Settings.{Settings}
 use Rattle.rec_words.specs.declared.usage.TheConstants.{USAGE}
 use Rattle.rec_words.specs.Usage.{versions_text}
 use Rattle.rec_words.specs.Words.{Asked, recording, tracing, replaying}
-use Rattle.rec_words.specs.Words.{reporting, informing, slotting, rerunning}
+use Rattle.rec_words.specs.Words.{reporting, informing, slotting, rerunning, viewing}
 use Rattle.rec_words.specs.Words.{sampling, upgrading, salvaging, living, packing, help, version}
 use Rattle.rec_faults.specs.DirectoryCommands.{live_status, pack_status}
 use Rattle.rec_faults.specs.Status.{export_status, reading_status}
@@ -58,6 +59,7 @@ module _ {S B F D T G : Type 0} (o : Objects S B F D T G) (status : ℕ) where
   asks number (informing settings) r = reads PrintsInfo settings r
   asks number (slotting settings) r = reads PrintsSlots settings r
   asks number (rerunning settings) r = reads PrintsRerun settings r
+  asks number (viewing output settings) r = reads (PrintsView output) settings r
   asks number (sampling n path settings) (inl r, kept) = prints r.0 r.2
   asks number (sampling n path settings) (inr r, kept) =
       above (export_status r.0) (export_above r.0) r.3.0

@@ -10,19 +10,20 @@ use Rattle.rec_reading.specs.Listing.{PrintsInfo, PrintsReplay, PrintsReport}
 use Rattle.rec_reading.specs.LogLines.{log_lines}
 use Rattle.rec_reading.specs.Reruns.{PrintsRerun}
 use Rattle.rec_reading.specs.Slots.{PrintsSlots}
+use Rattle.rec_reading.specs.Views.{PrintsView}
 use Rattle.rec_sample.specs.Session.{sample_session}
 use Rattle.rec_export.proofs.Complete.{fails}
 use Rattle.rec_export.specs.Bundle.{AreOf, session_refusal}
 use Rattle.rec_export.specs.declared.settings.Settings.{Settings}
 use Rattle.rec_words.specs.Words.{Asked, recording, tracing, replaying}
-use Rattle.rec_words.specs.Words.{reporting, informing, slotting, rerunning}
+use Rattle.rec_words.specs.Words.{reporting, informing, slotting, rerunning, viewing}
 use Rattle.rec_words.specs.Words.{sampling, upgrading, salvaging, living, packing, help, version}
 use Rattle.rec_faults.specs.Status.{export_status}
 use Rattle.rec_program.proofs.AcceptedBytes.{only_accepted}
 use Rattle.rec_program.proofs.Commands.{bundle_printed, info_is, info_or_memory, log_timeline}
 use Rattle.rec_program.proofs.Commands.{recorded_whole, redrawn, replay_or_memory}
 use Rattle.rec_program.proofs.Commands.{report_or_memory, rerun_or_memory, slots_are}
-use Rattle.rec_program.proofs.Commands.{slots_or_memory, trace_is, trace_or_memory}
+use Rattle.rec_program.proofs.Commands.{slots_or_memory, trace_is, trace_or_memory, view_or_memory}
 use Rattle.rec_program.proofs.RefusedBytes.{only_refused}
 use Rattle.rec_program.proofs.SamplesRecorded.{sampled, sampled_or_memory}
 use Rattle.rec_program.proofs.StatusesAbove.{live_above, pack_above}
@@ -107,6 +108,8 @@ module _ {S B F D T G : Type 0} (o : Objects S B F D T G) (status : ℕ) where
   succeeds number (rerunning settings) zeroed runs =
       shows PrintsRerun settings _
       (λ es manifest text h p. (manifest, h, (p.0, p.1, p.2))) zeroed runs
+  succeeds number (viewing output settings) zeroed runs =
+      shows (PrintsView output) settings _ (λ es manifest text h p. (manifest, h, p)) zeroed runs
   succeeds number (sampling n path settings) zeroed runs =
       sampled o.bundle.taken o.bundle.faults o.out.taken o.out.faults o.diag.taken o.diag.faults
       number settings (sample_session n) status o.b0 o.b1 o.o0 o.o1 o.d0 o.d1 zeroed runs.0
@@ -191,6 +194,10 @@ module _ {S B F D T G : Type 0} (o : Objects S B F D T G) (status : ℕ) where
       rerun_or_memory o.source.left o.source.faults o.out.taken o.out.faults o.diag.taken
       o.diag.faults settings status o.s0 o.s1 o.o0 o.o1 o.d0 o.d1
       bytes a.1.0 has a.0 a.1.2 well.0 well.1 a.1.4.0 a.1.4.1 runs.0
+  completes number (viewing output settings) bytes has a well runs =
+      view_or_memory o.source.left o.source.faults o.out.taken o.out.faults o.diag.taken
+      o.diag.faults settings status o.s0 o.s1 o.o0 o.o1 o.d0 o.d1
+      bytes a.1.0 has a.0 a.1.2 well.0 well.1 output a.1.1 a.1.4.0 a.1.3 a.1.4.1 runs.0
   completes number (sampling n path settings) bytes has a well runs =
       let within = subst (λ (s : List ℕ). length s ≤ settings.session_limit) has a.0 in
       let valid = ap (session_refusal number settings) (sym has) ∙ a.1 in

@@ -21,13 +21,14 @@ use Rattle.rec_errors.specs.ReadingErrors.{bundle_error}
 use Rattle.rec_reading.specs.Listing.{PrintsInfo, PrintsReplay, PrintsReport}
 use Rattle.rec_reading.specs.Reruns.{PrintsRerun}
 use Rattle.rec_reading.specs.Slots.{PrintsSlots}
+use Rattle.rec_reading.specs.Views.{PrintsView}
 use Rattle.rec_export.proofs.Complete.{no_more, same_session}
 use Rattle.rec_export.specs.Bundle.{session_refusal}
 use Rattle.rec_export.specs.declared.settings.Settings.{Settings}
 use Rattle.rec_export.specs.Export.{Undelivered}
 use Rattle.rec_export.specs.Reading.{Unread as NotRead}
 use Rattle.rec_words.specs.Words.{Asked, recording, tracing, replaying}
-use Rattle.rec_words.specs.Words.{reporting, informing, slotting, rerunning}
+use Rattle.rec_words.specs.Words.{reporting, informing, slotting, rerunning, viewing}
 use Rattle.rec_words.specs.Words.{sampling, upgrading, salvaging, living, packing, help, version}
 use Rattle.rec_faults.specs.Status.{export_status, reading_status}
 use Rattle.rec_faults.specs.WritingCommands.{upgrade_status}
@@ -199,6 +200,8 @@ module _ {S B F D T G : Type 0} (o : Objects S B F D T G) (status : ℕ) (bytes 
       reads PrintsSlots settings has well.0 well.1 runs
   only_refused number (rerunning settings) has well runs =
       reads PrintsRerun settings has well.0 well.1 runs
+  only_refused number (viewing output settings) has well runs =
+      reads (PrintsView output) settings has well.0 well.1 runs
   only_refused number (sampling n path settings) has well (inl r, kept) = printed r.0 well.1 r.2
   only_refused number (sampling n path settings) has well (inr (e, inl f, out, refused), kept) =
       subst (λ (b : List ℕ). Refused settings (RefusesSession number settings) b status) (sym has)

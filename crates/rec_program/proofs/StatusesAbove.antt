@@ -22,6 +22,7 @@ use Rattle.rec_errors.specs.declared.reading_error.ReadingError.TheVariants.{Bun
 use Rattle.rec_errors.specs.declared.reading_error.ReadingError.TheVariants.{Part, Line}
 use Rattle.rec_errors.specs.declared.reading_error.ReadingError.TheVariants.{Conversion, Report}
 use Rattle.rec_errors.specs.declared.reading_error.ReadingError.TheVariants.{Slots, OutOfMemory}
+use Rattle.rec_errors.specs.declared.reading_error.ReadingError.TheVariants.{OutputChanged}
 use Rattle.rec_errors.specs.declared.reading_error.ReadingError.{ReadingError}
 use Rattle.rec_errors.specs.LineFaults.{line_fault}
 use Rattle.rec_errors.specs.TraceFaults.{trace_fault}
@@ -109,6 +110,7 @@ reading_above (Line e) = export_above (line_fault e)
 reading_above (Conversion e) = conversion_above e
 reading_above (Report e) = junit_above e
 reading_above (Slots e) = slots_above e
+reading_above (OutputChanged file_name) = omega arith
 reading_above OutOfMemory = lit< tt
 
 pub live_above : (e : LiveError) → 2 < live_status e

@@ -22,6 +22,7 @@ use Rattle.rec_reading.specs.Listing.{manifest_line, replay_of, report_of}
 use Rattle.rec_reading.specs.LogLines.{log_lines}
 use Rattle.rec_reading.specs.Reruns.{PrintsSelection, RerunParts, rerun_parts_of}
 use Rattle.rec_reading.specs.Slots.{HasUsage, slot_lines}
+use Rattle.rec_reading.specs.Views.{view_of}
 use Rattle.rec_sample.specs.Session.{sample_session}
 use Rattle.rec_export.specs.Bundle.{session_refusal}
 use Rattle.rec_export.specs.declared.counts.Exported.{Exported}
@@ -34,7 +35,7 @@ use Rattle.rec_packing.specs.Packing.{LeavesFiles as LeavesBundle, Packs}
 use Rattle.rec_words.specs.declared.usage.TheConstants.{USAGE}
 use Rattle.rec_words.specs.Usage.{versions_text}
 use Rattle.rec_words.specs.Words.{Asked, recording, tracing, replaying}
-use Rattle.rec_words.specs.Words.{reporting, informing, slotting, rerunning}
+use Rattle.rec_words.specs.Words.{reporting, informing, slotting, rerunning, viewing}
 use Rattle.rec_words.specs.Words.{sampling, upgrading, salvaging, living, packing, help, version}
 use Rattle.rec_program.specs.BundleTraces.{bundle_trace}
 use Rattle.rec_program.specs.Counts.{counts_line, packed_line}
@@ -90,6 +91,8 @@ module _ {S B F D T G : Type 0} (o : Objects S B F D T G) where
   Succeeds number (rerunning settings) =
       Shows settings (λ es manifest text. (run : RerunParts)
       × (rerun_parts_of settings.read_limit es ≡ Ok run) × PrintsSelection run text)
+  Succeeds number (viewing output settings) =
+      Shows settings (λ es manifest text. view_of output settings.read_limit es ≡ Ok text)
   Succeeds number (sampling n path settings) =
       TakesSample o.bundle.taken number settings (sample_session n) o.b0 o.b1
       × OutTook o (session_counts number settings (sample_session n))
@@ -185,6 +188,9 @@ Accepts number (slotting settings) bytes =
 Accepts number (rerunning settings) bytes =
     IsBundle settings
     (λ es. (run : RerunParts) × (rerun_parts_of settings.read_limit es ≡ Ok run)) bytes
+Accepts number (viewing output settings) bytes =
+    IsBundle settings
+    (λ es. (text : List ℕ) × (view_of output settings.read_limit es ≡ Ok text)) bytes
 Accepts number (sampling n path settings) bytes = IsValid number settings bytes
 Accepts number (upgrading path settings) bytes =
     (length bytes ≤ settings.session_limit)

@@ -20,6 +20,7 @@ use Rattle.rec_errors.specs.ReadingErrors.{bundle_error}
 use Rattle.rec_reading.specs.Listing.{PrintsInfo, PrintsReplay, PrintsReport}
 use Rattle.rec_reading.specs.Reruns.{PrintsRerun}
 use Rattle.rec_reading.specs.Slots.{PrintsSlots}
+use Rattle.rec_reading.specs.Views.{PrintsView}
 use Rattle.rec_sample.specs.Session.{sample_session}
 use Rattle.rec_export.specs.declared.counts.Exported.{Exported}
 use Rattle.rec_export.specs.declared.settings.Settings.{Settings}
@@ -33,7 +34,7 @@ use Rattle.rec_packing.specs.Packing.{IsRefused, LeavesFiles, Packs}
 use Rattle.rec_words.specs.declared.usage.TheConstants.{USAGE}
 use Rattle.rec_words.specs.Usage.{versions_text}
 use Rattle.rec_words.specs.Words.{Asked, recording, tracing, replaying}
-use Rattle.rec_words.specs.Words.{reporting, informing, slotting, rerunning}
+use Rattle.rec_words.specs.Words.{reporting, informing, slotting, rerunning, viewing}
 use Rattle.rec_words.specs.Words.{sampling, upgrading, salvaging, living, packing, help, version}
 use Rattle.rec_faults.specs.DirectoryCommands.{live_shown, live_status, pack_shown, pack_status}
 use Rattle.rec_faults.specs.FaultLine.{Shown, export_shown, line, sink_shown, words_shown}
@@ -236,6 +237,7 @@ module _ {S B F D T G : Type 0} (o : Objects S B F D T G) (status : ℕ) where
   Runs number (Ok (informing settings)) = ShowsReading PrintsInfo settings
   Runs number (Ok (slotting settings)) = ShowsReading PrintsSlots settings
   Runs number (Ok (rerunning settings)) = ShowsReading PrintsRerun settings
+  Runs number (Ok (viewing output settings)) = ShowsReading (PrintsView output) settings
   Runs number (Ok (sampling n path settings)) =
       RecordsSample o.bundle.taken o.bundle.faults o.out.taken o.out.faults o.diag.taken
       o.diag.faults number settings (sample_session n) status o.b0 o.b1 o.o0 o.o1 o.d0 o.d1

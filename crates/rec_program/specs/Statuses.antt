@@ -9,10 +9,11 @@ use Rattle.rec_errors.specs.ReadingErrors.{bundle_error}
 use Rattle.rec_reading.specs.Listing.{PrintsInfo, PrintsReplay, PrintsReport}
 use Rattle.rec_reading.specs.Reruns.{PrintsRerun}
 use Rattle.rec_reading.specs.Slots.{PrintsSlots}
+use Rattle.rec_reading.specs.Views.{PrintsView}
 use Rattle.rec_export.specs.Bundle.{session_refusal}
 use Rattle.rec_export.specs.declared.settings.Settings.{Settings}
 use Rattle.rec_words.specs.Words.{Asked, recording, tracing, replaying}
-use Rattle.rec_words.specs.Words.{reporting, informing, slotting, rerunning}
+use Rattle.rec_words.specs.Words.{reporting, informing, slotting, rerunning, viewing}
 use Rattle.rec_words.specs.Words.{sampling, upgrading, salvaging, living, packing, help, version}
 use Rattle.rec_faults.specs.Status.{export_status, reading_status}
 use Rattle.rec_faults.specs.WritingCommands.{upgrade_status}
@@ -53,6 +54,8 @@ Refuses number (reporting settings) = Refused settings (RefusesBundle PrintsRepo
 Refuses number (informing settings) = Refused settings (RefusesBundle PrintsInfo settings)
 Refuses number (slotting settings) = Refused settings (RefusesBundle PrintsSlots settings)
 Refuses number (rerunning settings) = Refused settings (RefusesBundle PrintsRerun settings)
+Refuses number (viewing output settings) =
+    Refused settings (RefusesBundle (PrintsView output) settings)
 Refuses number (sampling n path settings) = Refused settings (RefusesSession number settings)
 Refuses number (upgrading path settings) =
     Refused settings (λ bytes status. (e : UpgradeError) × IsRefused bytes settings.read_limit e

@@ -33,7 +33,7 @@ use rec_export::{Settings, record_and_export};
 use rec_faults::{Refusal, SUCCESS, refuse};
 use rec_portable::laws::readable_bundles_are_upgraded;
 use rec_portable::upgrade;
-use rec_reading::{Info, Replay, Report, Rerun, Slots};
+use rec_reading::{Info, Replay, Report, Rerun, Slots, View};
 use rec_store::Sha256Namer;
 use rec_words::{Command, USAGE, read_words, versions};
 use std::alloc::Global;
@@ -248,6 +248,17 @@ fn run<S: Source, B: Sink, F: Sink, D: Disk, T: Sink, G: Sink>(
         Ok(Command::Rerun { settings }) => {
             let status = show(
                 read_bundle(alloc, &settings, &mut streams.source, &Rerun),
+                &mut streams.out,
+                &mut streams.diag,
+            );
+            Ended { status, streams }
+        }
+        Ok(Command::View { output, settings }) => {
+            let printer = View {
+                load_output: output,
+            };
+            let status = show(
+                read_bundle(alloc, &settings, &mut streams.source, &printer),
                 &mut streams.out,
                 &mut streams.diag,
             );

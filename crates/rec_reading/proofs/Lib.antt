@@ -3,6 +3,7 @@ pub mod Entries
 pub mod EventsRead
 pub mod Lent
 pub mod Listed
+mod LogRead
 pub mod Opened
 pub mod Printed
 pub mod Registered
@@ -10,3 +11,6 @@ pub mod Reported
 pub mod RerunRead
 pub mod ManifestListed
 mod SlotsRead
+mod StoreEntries
+mod OutputsPrinted
+mod ViewRead

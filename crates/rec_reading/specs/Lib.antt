@@ -9,3 +9,5 @@ pub mod Reruns
 pub mod RunParts
 pub mod Stores
 pub mod Slots
+pub mod Outputs
+pub mod Views

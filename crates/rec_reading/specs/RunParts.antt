@@ -1,6 +1,6 @@
 -- What a run's events are printed from.
-use Rattle.std.specs.Prelude.{◌≡◌, ◌⊎◌, ℕ, List, Result, Ok, Err}
-use Rattle.rec_container.specs.Container.{Entry}
+use Rattle.std.specs.Prelude.{◌≡◌, ◌⊎◌, ℕ, List, Option, Some, None, Result, Ok, Err}
+use Rattle.rec_container.specs.Container.{Entry, IsContainer, ParsedContainer}
 use Rattle.rec_container.specs.Reading.{◌>>=◌}
 use Rattle.rec_events.specs.declared.recording.NextestRunMode.{NextestRunMode}
 use Rattle.rec_events.specs.declared.recording.RecordOpts.{RecordOpts}
@@ -16,7 +16,7 @@ use Rattle.rec_store.specs.Parts.{metadata_part}
 use Rattle.rec_portable.specs.declared.errors.PortableRecordingReadError.{
   PortableRecordingReadError,
 }
-use Rattle.rec_portable.specs.OuterEntries.{log_part}
+use Rattle.rec_portable.specs.OuterEntries.{IsStoreRefused, log_part}
 use Rattle.rec_errors.specs.declared.reading_error.ReadingError.TheVariants.{OutOfMemory}
 use Rattle.rec_errors.specs.declared.reading_error.ReadingError.{ReadingError}
 use Rattle.rec_errors.specs.ReadingErrors.{bundle_error, part_error}
@@ -67,6 +67,19 @@ parts_of limit es = do
 abbrev pub Answers : {T : Type 0} → Result T ReadingError → Result T ReadingError → Type 0
 Answers expected (Ok x) = expected ≡ Ok x
 Answers expected (Err e) = (e ≡ OutOfMemory) ⊎ (expected ≡ Err e)
+
+-- the entries of the store that was found, or why it isn't read
+abbrev pub OpensStored : Option (List ℕ) → Result ParsedContainer PortableRecordingReadError
+    → Type 0
+OpensStored None (Ok c) = ⊥
+OpensStored (Some bytes) (Ok c) = IsContainer bytes c.entries
+OpensStored found (Err e) = IsStoreRefused found e
+
+-- the entries of a container that was read, or why it isn't, but for want of memory
+abbrev pub OpensEntries : Result (List Entry) ReadingError → Result ParsedContainer ReadingError
+    → Type 0
+OpensEntries expected (Ok c) = expected ≡ Ok c.entries
+OpensEntries expected (Err e) = (e ≡ OutOfMemory) ⊎ (expected ≡ Err e)
 
 -- the parts of a run that was read
 abbrev pub parts_in : OpenRun → RunParts

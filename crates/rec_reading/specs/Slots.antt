@@ -3,9 +3,7 @@ use Rattle.std.specs.Fmt.{decimal}
 use Rattle.std.specs.List.{flat_map}
 use Rattle.std.specs.Prelude.{◌≡◌, ◌≢◌, ◌⊎◌, ℕ, List, [], ◌∷◌, ◌++◌, map, Result, Ok, Err, codes}
 use Rattle.rec_container.specs.Container.{Entry}
-use Rattle.rec_container.specs.Reading.{◌>>=◌}
 use Rattle.rec_codec.specs.Event.{RecordedEvent}
-use Rattle.rec_portable.specs.OuterEntries.{log_part}
 use Rattle.rec_spans.specs.Plain.{PlainEvent, plain}
 use Rattle.rec_slots.specs.declared.report.SlotError.TheVariants as causes
 use Rattle.rec_slots.specs.declared.report.SlotError.{SlotError}
@@ -15,9 +13,7 @@ use Rattle.rec_slots.specs.Refusals.{IsAccepted, IsRefused, No, Reports}
 use Rattle.rec_slots.specs.Runs.{Falls, IsOneRun, IsOutside}
 use Rattle.rec_errors.specs.declared.reading_error.ReadingError.{ReadingError}
 use Rattle.rec_errors.specs.ReadingErrors.{slot_error}
-use Rattle.rec_reading.specs.LogEvents.{events_of}
-use Rattle.rec_reading.specs.LogLines.{log_lines}
-use Rattle.rec_reading.specs.RunParts.{of_bundle}
+use Rattle.rec_reading.specs.LogEvents.{run_events}
 
 -- ---- the text
 
@@ -44,11 +40,6 @@ PrintsUsage events (Err e) =
     × (e ≡ slot_error cause)
 
 -- the events of the log come before what is reported of them
-abbrev pub run_events : ℕ → List Entry → Result (List RecordedEvent) ReadingError
-run_events limit es = do
-  log ← of_bundle (log_part limit es)
-  events_of (log_lines log)
-
 abbrev pub PrintsSlots : ℕ → List Entry → Result (List ℕ) ReadingError → Type 0
 PrintsSlots limit es (Ok text) =
     (events : List RecordedEvent) × (run_events limit es ≡ Ok events)

@@ -5,12 +5,14 @@ ghost use Rattle.rec_errors.specs.declared.reading_error.ReadingError.{ReadingEr
 ghost use Rattle.rec_reading.specs.Listing.{Makes, PrintsInfo, PrintsReplay, PrintsReport};
 ghost use Rattle.rec_reading.specs.Reruns.{PrintsRerun};
 ghost use Rattle.rec_reading.specs.Slots.{PrintsSlots};
+ghost use Rattle.rec_reading.specs.Views.{PrintsView};
 
 use crate::info::info_text;
 use crate::replay::replay_text;
 use crate::report::report_text;
 use crate::rerun::rerun_text;
 use crate::slots::slots_text;
+use crate::view::view_text;
 use rec_errors::ReadingError;
 use rec_portable::PortableRecording;
 use rec_replay::LoadOutput;
@@ -93,5 +95,20 @@ impl BundleText for Slots {
 
     fn text(&self, alloc: Global, bundle: &PortableRecording) -> Result<Vec<u8>, ReadingError> {
         slots_text(alloc, bundle)
+    }
+}
+
+/// Prints a view of the run, as [`view_text`] makes it.
+#[derive(Drop)]
+pub struct View {
+    /// Whether outputs are read.
+    pub load_output: LoadOutput,
+}
+
+impl BundleText for View {
+    ghost prints = { λ view. PrintsView view.load_output };
+
+    fn text(&self, alloc: Global, bundle: &PortableRecording) -> Result<Vec<u8>, ReadingError> {
+        view_text(alloc, bundle, self.load_output)
     }
 }

@@ -1,11 +1,13 @@
 //! The events of a log, and what takes them as they are read.
 ghost use Rattle.std.specs.Prelude.{◌≡◌, ◌++◌, [], ◌∷◌, List, OnOk};
+ghost use Rattle.rec_container.specs.Container.{Entry, IsContainer};
 ghost use Rattle.rec_codec.specs.Event.{RecordedEvent};
-ghost use Rattle.rec_reading.specs.LogEvents.{ReadsEvents, TakesLines};
+ghost use Rattle.rec_reading.specs.LogEvents.{ReadsEvents, TakesLines, events_of, run_events};
 
 use rec_codec::LineIter;
 use rec_errors::ReadingError;
 use rec_events::{RecordingSpec, TestEventSummary};
+use rec_portable::PortableRecording;
 use std::alloc::{AllocError, Global};
 
 /// Takes the events of a log, one after the other.
@@ -66,6 +68,26 @@ fn take_and_discard<T: EventTaker>(
     result
 }
 
+/// Reads the events of a bundle's log.
+///
+/// # Errors
+///
+/// - `Bundle` with `MissingFile` or `FileTooLarge` for the log.
+/// - `Line` with the fault of the first line of the log that gives no event.
+///
+/// `OutOfMemory` may come at any time.
+pub(crate) fn read_log(
+    alloc: Global,
+    bundle: &PortableRecording,
+) -> Result<Vec<TestEventSummary<RecordingSpec>>, ReadingError>
+    ensures { (es : List Entry)
+        → IsContainer bundle.now.bytes es
+        → ReadsEvents (run_events bundle.now.limit es) result }
+{
+    let log = bundle.read_run_log(alloc)?;
+    read_events(alloc, log.events(alloc))
+}
+
 /// Reads the events of the lines of a log.
 ///
 /// # Errors
@@ -75,7 +97,7 @@ pub(crate) fn read_events(
     alloc: Global,
     mut items: LineIter<'_, RecordingSpec>,
 ) -> Result<Vec<TestEventSummary<RecordingSpec>>, ReadingError>
-    ensures { ReadsEvents items.entry result }
+    ensures { ReadsEvents (events_of items.entry) result }
 {
     let mut events = Vec::new(alloc);
     // By a reference: an iterator that owns memory doesn't say what it gave.

@@ -6,7 +6,7 @@ ghost use Rattle.rec_reading.specs.Listing.{Makes};
 ghost use Rattle.rec_reading.specs.Slots.{PrintsSlots, PrintsUsage};
 ghost use Rattle.rec_reading.specs.Slots.{run_line, slot_line, slot_lines};
 
-use crate::events::read_events;
+use crate::events::read_log;
 use rec_errors::ReadingError;
 use rec_events::{RecordingSpec, TestEventSummary};
 use rec_portable::PortableRecording;
@@ -28,8 +28,7 @@ pub fn slots_text(alloc: Global, bundle: &PortableRecording) -> Result<Vec<u8>, 
         → IsContainer bundle.now.bytes es
         → Makes (PrintsSlots bundle.now.limit es) result }
 {
-    let log = bundle.read_run_log(alloc)?;
-    let events = read_events(alloc, log.events(alloc))?;
+    let events = read_log(alloc, bundle)?;
     let result = usage_text(alloc, &events);
     // By a call: in place, each kind of event would be a case of the proof.
     drop(events);

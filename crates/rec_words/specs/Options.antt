@@ -23,7 +23,7 @@ use Rattle.rec_export.specs.declared.settings.Settings.{Settings}
 use Rattle.rec_export.specs.Settings.{default_settings}
 use Rattle.rec_words.specs.declared.options.CommandName.TheVariants.{Record, Trace, Replay}
 use Rattle.rec_words.specs.declared.options.CommandName.TheVariants.{Sample, Upgrade, Salvage}
-use Rattle.rec_words.specs.declared.options.CommandName.TheVariants.{Live, Pack}
+use Rattle.rec_words.specs.declared.options.CommandName.TheVariants.{View, Live, Pack}
 use Rattle.rec_words.specs.declared.options.CommandName.{CommandName}
 use Rattle.rec_words.specs.declared.options.OptionName.TheVariants.{GroupBy, MessageFormat}
 use Rattle.rec_words.specs.declared.options.OptionName.TheVariants.{MaxOutput, ReadLimit}
@@ -56,10 +56,11 @@ records Sample = true
 records Live = true
 records command = false
 
--- the command that replays events
-abbrev pub replays : CommandName → Bool
-replays Replay = true
-replays command = false
+-- the commands that read outputs, unless they are to be skipped
+abbrev pub loads_outputs : CommandName → Bool
+loads_outputs Replay = true
+loads_outputs View = true
+loads_outputs command = false
 
 -- the commands that take the limit of what is read of a bundle: all but those of a run's directory
 abbrev pub reads_bundle : CommandName → Bool
@@ -72,7 +73,7 @@ abbrev pub takes : CommandName → OptionName → Bool
 takes command GroupBy = draws command
 takes command MessageFormat = draws command
 takes command MaxOutput = records command
-takes command Output = replays command
+takes command Output = loads_outputs command
 takes command ReadLimit = reads_bundle command
 takes command SessionLimit = true
 

@@ -17,7 +17,7 @@ use Rattle.rec_export.specs.declared.settings.Settings.{Settings}
 use Rattle.rec_words.specs.declared.options.CommandName.TheVariants.{Record, Trace, Replay}
 use Rattle.rec_words.specs.declared.options.CommandName.TheVariants.{Report, Info, Slots, Rerun}
 use Rattle.rec_words.specs.declared.options.CommandName.TheVariants.{Sample, Upgrade, Salvage}
-use Rattle.rec_words.specs.declared.options.CommandName.TheVariants.{Live, Pack}
+use Rattle.rec_words.specs.declared.options.CommandName.TheVariants.{View, Live, Pack}
 use Rattle.rec_words.specs.declared.options.CommandName.{CommandName}
 use Rattle.rec_words.specs.declared.words.BundleWords.{BundleWords}
 use Rattle.rec_words.specs.declared.words.Command.TheVariants as commands
@@ -26,10 +26,10 @@ use Rattle.rec_words.specs.Options.{load_of, no_values, options_at, settings_fro
 use Rattle.rec_words.specs.Options.{settings_of, tests_of, values_from}
 
 -- what words ask for: a recording into a bundle at a path; the trace of a bundle, its events, its
--- reports, what its manifest says, how its slots were used, or which tests to run again; a
--- recording of a generated session of so many tests; a bundle upgraded, or what is salvaged of it,
--- at a path; a recording into a directory while the run goes on, or the bundle of such a directory
--- at a path; or a text about the program
+-- reports, what its manifest says, how its slots were used, which tests to run again, or a view of
+-- its run; a recording of a generated session of so many tests; a bundle upgraded, or what is
+-- salvaged of it, at a path; a recording into a directory while the run goes on, or the bundle of
+-- such a directory at a path; or a text about the program
 pub data Asked : Type 0 where
   recording : List ℕ → Settings → Asked
   tracing : Settings → Asked
@@ -38,6 +38,7 @@ pub data Asked : Type 0 where
   informing : Settings → Asked
   slotting : Settings → Asked
   rerunning : Settings → Asked
+  viewing : LoadOutput → Settings → Asked
   sampling : ℕ → List ℕ → Settings → Asked
   upgrading : List ℕ → Settings → Asked
   salvaging : List ℕ → Settings → Asked
@@ -60,6 +61,7 @@ asked (commands.Report settings) = reporting settings
 asked (commands.Info settings) = informing settings
 asked (commands.Slots settings) = slotting settings
 asked (commands.Rerun settings) = rerunning settings
+asked (commands.View output settings) = viewing output settings
 asked (commands.Sample n bundle settings) = sampling n bundle.now settings
 asked (commands.Upgrade bundle settings) = upgrading bundle.now settings
 asked (commands.Salvage bundle settings) = salvaging bundle.now settings
@@ -82,6 +84,7 @@ command_named word =
     else if bytes_eq word (codes "info") then Some Info
     else if bytes_eq word (codes "slots") then Some Slots
     else if bytes_eq word (codes "rerun") then Some Rerun
+    else if bytes_eq word (codes "view") then Some View
     else if bytes_eq word (codes "sample") then Some Sample
     else if bytes_eq word (codes "upgrade") then Some Upgrade
     else if bytes_eq word (codes "salvage") then Some Salvage
@@ -120,6 +123,9 @@ command_after Report words = settings_from Report words >>= (λ settings. Ok (re
 command_after Info words = settings_from Info words >>= (λ settings. Ok (informing settings))
 command_after Slots words = settings_from Slots words >>= (λ settings. Ok (slotting settings))
 command_after Rerun words = settings_from Rerun words >>= (λ settings. Ok (rerunning settings))
+command_after View words =
+    values_from View no_values (options_at View) words
+    >>= (λ values. Ok (viewing (load_of values) (settings_of values)))
 command_after Sample [] = Err (MissingPositional 1)
 command_after Sample (number ∷ words) =
     ok_or (tests_of number) (BadNumber 1) >>= (λ n. sample_after n words)

@@ -1,8 +1,9 @@
 //! The options of the commands.
 ghost use Rattle.std.specs.Prelude.{◌≡◌, ◌≤◌, IfSome};
-ghost use Rattle.rec_words.specs.Options.{draws, group_by_of, has_come, load_of, message_format_of};
+ghost use Rattle.rec_words.specs.Options.{draws, group_by_of, has_come, load_of, loads_outputs};
+ghost use Rattle.rec_words.specs.Options.{message_format_of};
 ghost use Rattle.rec_words.specs.Options.{new_option, no_values, number_of, option_named};
-ghost use Rattle.rec_words.specs.Options.{options_at, output_of, reads_bundle, records, replays};
+ghost use Rattle.rec_words.specs.Options.{options_at, output_of, reads_bundle, records};
 ghost use Rattle.rec_words.specs.Options.{settings_from, settings_of, takes, tests_of};
 ghost use Rattle.rec_words.specs.Options.{values_from, with_value};
 ghost use Rattle.rec_words.specs.Words.{texts};
@@ -30,6 +31,8 @@ pub enum CommandName {
     Slots,
     /// `rerun`
     Rerun,
+    /// `view`
+    View,
     /// `sample`
     Sample,
     /// `upgrade`
@@ -50,7 +53,7 @@ impl CommandName {
         match option {
             OptionName::GroupBy | OptionName::MessageFormat => self.draws(),
             OptionName::MaxOutput => self.records(),
-            OptionName::Output => self.replays(),
+            OptionName::Output => self.loads_outputs(),
             OptionName::ReadLimit => self.reads_bundle(),
             OptionName::SessionLimit => true,
         }
@@ -67,6 +70,7 @@ impl CommandName {
             | CommandName::Info
             | CommandName::Slots
             | CommandName::Rerun
+            | CommandName::View
             | CommandName::Upgrade
             | CommandName::Salvage
             | CommandName::Live
@@ -86,18 +90,19 @@ impl CommandName {
             | CommandName::Info
             | CommandName::Slots
             | CommandName::Rerun
+            | CommandName::View
             | CommandName::Upgrade
             | CommandName::Salvage
             | CommandName::Pack => false,
         }
     }
 
-    /// Returns whether the command replays events.
-    fn replays(self) -> bool
-        ensures { result ≡ replays self }
+    /// Returns whether the command reads outputs, unless they are to be skipped.
+    fn loads_outputs(self) -> bool
+        ensures { result ≡ loads_outputs self }
     {
         match self {
-            CommandName::Replay => true,
+            CommandName::Replay | CommandName::View => true,
             CommandName::Record
             | CommandName::Trace
             | CommandName::Report
@@ -125,6 +130,7 @@ impl CommandName {
             | CommandName::Info
             | CommandName::Slots
             | CommandName::Rerun
+            | CommandName::View
             | CommandName::Sample
             | CommandName::Upgrade
             | CommandName::Salvage => true,
@@ -144,7 +150,8 @@ impl CommandName {
             | CommandName::Report
             | CommandName::Info
             | CommandName::Slots
-            | CommandName::Rerun => 1,
+            | CommandName::Rerun
+            | CommandName::View => 1,
         }
     }
 }

@@ -3,7 +3,7 @@ ghost use Rattle.std.specs.Option.{option_map};
 ghost use Rattle.std.specs.Prelude.{◌≡◌, ◌≤◌, IfOk};
 ghost use Rattle.rec_words.specs.declared.options.CommandName.TheVariants.{Live, Pack, Record};
 ghost use Rattle.rec_words.specs.declared.options.CommandName.TheVariants.{Replay, Sample};
-ghost use Rattle.rec_words.specs.declared.options.CommandName.TheVariants.{Salvage, Upgrade};
+ghost use Rattle.rec_words.specs.declared.options.CommandName.TheVariants.{Salvage, Upgrade, View};
 ghost use Rattle.rec_words.specs.Words.{texts, bundle_after, command, command_after};
 ghost use Rattle.rec_words.specs.Words.{command_named, directory_of, other_command, bundle_of};
 ghost use Rattle.rec_words.specs.Words.{pack_after, sample_after, HasTests, Reads, ReadsBundle};
@@ -47,6 +47,12 @@ pub enum Command<'w> {
     },
     /// Prints which tests are to run again after the run in the bundle on standard input.
     Rerun {
+        settings: Settings,
+    },
+    /// Prints what a viewer wants to know of the run in the bundle on standard input. `output` says
+    /// whether outputs are read.
+    View {
+        output: LoadOutput,
         settings: Settings,
     },
     /// Records a generated session of `n` tests, at most 10000, into the file `bundle`.
@@ -117,6 +123,7 @@ fn command_named(word: &str) -> Option<CommandName>
         "info" => Some(CommandName::Info),
         "slots" => Some(CommandName::Slots),
         "rerun" => Some(CommandName::Rerun),
+        "view" => Some(CommandName::View),
         "sample" => Some(CommandName::Sample),
         "upgrade" => Some(CommandName::Upgrade),
         "salvage" => Some(CommandName::Salvage),
@@ -155,6 +162,7 @@ fn read_command(name: CommandName, words: &[String]) -> Result<Command<'_>, Word
             let settings = read_settings(CommandName::Rerun, words)?;
             Ok(Command::Rerun { settings })
         }
+        CommandName::View => read_view(words),
         CommandName::Sample => read_sample(words),
         CommandName::Upgrade => read_upgrade(words),
         CommandName::Salvage => read_salvage(words),
@@ -258,6 +266,17 @@ fn read_replay(words: &[String]) -> Result<Command<'_>, WordsError>
     let output = values.load_output();
     let settings = values.settings();
     Ok(Command::Replay { output, settings })
+}
+
+/// Reads the words after `view`: the options, one of which is no setting.
+fn read_view(words: &[String]) -> Result<Command<'_>, WordsError>
+    ensures reads { Reads result (command_after View (texts words.now)) }
+    ensures within { IfOk result HasTests }
+{
+    let values = read_options(CommandName::View, words)?;
+    let output = values.load_output();
+    let settings = values.settings();
+    Ok(Command::View { output, settings })
 }
 
 /// Reads the words after `sample`: the number of tests, the bundle, and the options.
