@@ -3,6 +3,7 @@ use Rattle.std.specs.Option.{option_or}
 use Rattle.std.specs.Prelude.{◌-◌, ℕ, Bool, true, false, List, length, slice_get}
 use Rattle.std.specs.Prelude.{Option, Some, None, option_and_then, option_map}
 use Rattle.rec_events.specs.declared.events.CoreEventKind.TheVariants.{
+  SetupScriptStarted,
   SetupScriptSlow,
   TestStarted,
   TestSlow,
@@ -22,6 +23,9 @@ use Rattle.rec_events.specs.declared.events.TestEventKindSummary.{TestEventKindS
 use Rattle.rec_events.specs.declared.events.TestEventSummary.{TestEventSummary}
 use Rattle.rec_events.specs.declared.instances.RetryData.{RetryData}
 use Rattle.rec_events.specs.declared.instances.StressIndexSummary.{StressIndexSummary}
+use Rattle.rec_events.specs.declared.script_statuses.SetupScriptExecuteStatus.{
+  SetupScriptExecuteStatus,
+}
 use Rattle.rec_events.specs.declared.skipping.MismatchReason.{MismatchReason}
 use Rattle.rec_events.specs.declared.statuses.ExecuteStatus.{ExecuteStatus}
 use Rattle.rec_events.specs.Times.{Moment}
@@ -44,8 +48,18 @@ abbrev pub core_reason : CoreEventKind → Option MismatchReason
 core_reason (TestSkipped stress test reason skipped) = Some reason
 core_reason _ = None
 
--- the sub-run that a test belongs to
+-- how many setup scripts stand before one that starts, and which one it is
+abbrev pub core_index : CoreEventKind → Option ℕ
+core_index (SetupScriptStarted stress index total script program args no_capture) = Some index
+core_index _ = None
+
+abbrev pub core_script : CoreEventKind → Option (List ℕ)
+core_script (SetupScriptStarted stress index total script program args no_capture) = Some script
+core_script _ = None
+
+-- the sub-run that a test or a setup script belongs to
 abbrev pub core_stress : CoreEventKind → Option StressIndexSummary
+core_stress (SetupScriptStarted stress index total script program args no_capture) = stress
 core_stress (TestStarted stress test slot stats running command) = stress
 core_stress (TestRetryStarted stress test slot retry running command) = stress
 core_stress (TestSkipped stress test reason skipped) = stress
@@ -77,6 +91,14 @@ module _ {S O : Type 0} where
   reason_told (Core kind) = core_reason kind
   reason_told (Output kind) = None
 
+  abbrev pub index_told : TestEventKindSummary S O → Option ℕ
+  index_told (Core kind) = core_index kind
+  index_told (Output kind) = None
+
+  abbrev pub script_told : TestEventKindSummary S O → Option (List ℕ)
+  script_told (Core kind) = core_script kind
+  script_told (Output kind) = None
+
   abbrev pub output_stress : OutputEventKind S O → Option StressIndexSummary
   output_stress (TestFinished stress test success failure store_success store_failure junit statuses
       stats running) =
@@ -99,6 +121,17 @@ module _ {S O : Type 0} where
   abbrev pub status_told : TestEventKindSummary S O → Option (ExecuteStatus S O)
   status_told (Core kind) = None
   status_told (Output kind) = output_status kind
+
+  -- the status of the setup script that an event ends
+  abbrev pub output_script_status : OutputEventKind S O → Option (SetupScriptExecuteStatus S O)
+  output_script_status (SetupScriptFinished stress index total script program args no_capture
+      status) =
+      Some status
+  output_script_status _ = None
+
+  abbrev pub script_status_told : TestEventKindSummary S O → Option (SetupScriptExecuteStatus S O)
+  script_status_told (Core kind) = None
+  script_status_told (Output kind) = output_script_status kind
 
   abbrev pub is_slow : TestEventKindSummary S O → Bool
   is_slow (Core kind) = core_slow kind

@@ -15,6 +15,7 @@ use Rattle.rec_forms.specs.Skipping.{mismatch_reason_value}
 use Rattle.rec_forms.specs.Times.{stamp_value}
 use Rattle.rec_codec.specs.Event.{RecordedEvent}
 use Rattle.rec_codec.specs.EventForms.{event_value}
+use Rattle.rec_codec.specs.ScriptStatus.{script_status_value}
 use Rattle.rec_codec.specs.Status.{status_value}
 use Rattle.rec_spans.specs.declared.settings.ChromeTraceGroupBy.TheVariants as group
 use Rattle.rec_spans.specs.Kinds.{history}
@@ -22,16 +23,19 @@ use Rattle.rec_spans.specs.Past.{TraceInput}
 use Rattle.rec_spans.specs.Plain.{plain}
 use Rattle.rec_view.specs.Acts.{acts}
 use Rattle.rec_view.specs.Counts.{count}
+use Rattle.rec_view.specs.declared.scripts.ScriptView.{ScriptView}
 use Rattle.rec_view.specs.declared.test_views.Attempt.{Attempt}
 use Rattle.rec_view.specs.declared.verdicts.Verdict.TheVariants.{Passed, Flaky, Failed, Skipped}
 use Rattle.rec_view.specs.declared.verdicts.Verdict.TheVariants.{Unfinished, NotStarted}
 use Rattle.rec_view.specs.declared.verdicts.Verdict.{Verdict}
 use Rattle.rec_view.specs.Rows.{Row, rows_of}
+use Rattle.rec_view.specs.Scripts.{script_acts, scripts}
 use Rattle.rec_view.specs.Slices.{all_slices, pauses}
 use Rattle.rec_view.specs.Tests.{verdicts}
 use Rattle.rec_view.specs.Unnamed.{unnamed}
-use Rattle.rec_view_json.specs.Told.{cancels, instant_at, is_slow, moment_at, reason_told}
-use Rattle.rec_view_json.specs.Told.{retry_told, slot_told, status_told, stress_told, told_at}
+use Rattle.rec_view_json.specs.Told.{cancels, index_told, instant_at, is_slow, moment_at}
+use Rattle.rec_view_json.specs.Told.{reason_told, retry_told, script_status_told, script_told}
+use Rattle.rec_view_json.specs.Told.{slot_told, status_told, stress_told, told_at}
 
 -- the values of the items that have one
 abbrev pub some_values : {T : Type 0} → (T → Option Data) → List T → Data
@@ -65,6 +69,20 @@ attempt_value events a =
     ∷ optional (codes "status") (status_value stored_outputs_value)
     (option_and_then (told_at status_told events) a.to)
     ∷ [])
+
+-- ---- setup scripts
+
+unfoldable pub script_value : List RecordedEvent → ScriptView → Data
+script_value events s =
+    struct
+    (optional (codes "ended") stamp_value (option_and_then (instant_at events) s.to)
+    ∷ optional (codes "index") natural (told_at index_told events s.from)
+    ∷ optional (codes "script-id") string (told_at script_told events s.from)
+    ∷ field (codes "slices") (slices_value events s.from s.to)
+    ∷ optional (codes "started") stamp_value (instant_at events s.from)
+    ∷ optional (codes "status") (script_status_value stored_outputs_value)
+    (option_and_then (told_at script_status_told events) s.to)
+    ∷ optional (codes "stress-index") stress_index_value (told_at stress_told events s.from) ∷ [])
 
 -- ---- tests
 
@@ -120,5 +138,6 @@ view_value run events =
     ∷ optional (codes "end") stamp_value (instant_at events (length events - 1))
     ∷ field (codes "pauses") (list_value (slice_value events) (pauses (history_of events)))
     ∷ field (codes "run") run
+    ∷ field (codes "scripts") (list_value (script_value events) (scripts (script_acts events)))
     ∷ field (codes "slow") (some_values (event_if is_slow) events)
     ∷ field (codes "tests") (list_value (test_value events) (rows_of (acts events))) ∷ [])

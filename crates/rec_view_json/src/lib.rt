@@ -7,6 +7,7 @@ mod counts;
 mod lists;
 mod marks;
 mod positions;
+mod scripts;
 mod slices;
 mod statuses;
 mod tests;

@@ -1,14 +1,18 @@
 //! Slices, each as the two instants between which it lasts.
-ghost use Rattle.std.specs.Prelude.{◌≡◌, ◌++◌, OnOk, option_map, option_to_list};
+ghost use Rattle.std.specs.Prelude.{◌≡◌, [], ◌∷◌, codes, IfOk, OnOk, option_map, option_to_list, ⊤};
 ghost use Rattle.rec_json.specs.Tokens.{with_items};
+ghost use Rattle.rec_forms.specs.ObjectWriting.{Writes};
+ghost use Rattle.rec_forms.specs.Shape.{field};
 ghost use Rattle.rec_forms.specs.Times.{stamp_value};
+ghost use Rattle.rec_view_json.specs.Fitting.{Fits};
+ghost use Rattle.rec_view_json.specs.Views.{slices_value};
 
-use crate::lists::{ItemWriter, SomeWriter, write_some};
+use crate::lists::{ItemWriter, SomeWriter, with_list, write_some};
 use crate::positions::moment_at;
 use rec_events::{RecordingSpec, Stamp, TestEventSummary};
-use rec_forms::Form;
+use rec_forms::{Form, ObjectWriter};
 use rec_json::JsonText;
-use rec_view::Slice;
+use rec_view::{ShownGaps, Slice};
 use std::alloc::{AllocError, Global};
 
 /// Writes the instants at positions among these events.
@@ -69,4 +73,24 @@ impl<'e> ItemWriter for SliceWriter<'e> {
         let ends = [item.from, item.to];
         write_some(&instants, alloc, text, &ends)
     }
+}
+
+/// Writes the slices of what lasts from one event to another, or past the last one, as a field.
+pub(crate) fn with_slices(
+    object: ObjectWriter,
+    alloc: Global,
+    text: &mut JsonText,
+    events: &[TestEventSummary<RecordingSpec>],
+    gaps: &ShownGaps,
+    from: u64,
+    to: Option<u64>,
+) -> Result<ObjectWriter, AllocError>
+    requires { Fits events.now gaps.now from to }
+    ensures { IfOk result (λ w. Writes object text.old w text.new
+        (field (codes "slices") (slices_value events.now from to) ∷ []) ⊤) }
+{
+    let to = to.unwrap_or(events.len() as u64) as usize;
+    let slices = gaps.slices(alloc, from as usize, to)?;
+    let writer = SliceWriter { events };
+    with_list(object, alloc, text, "slices", &writer, slices.as_slice())
 }

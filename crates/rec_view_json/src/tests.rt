@@ -41,7 +41,8 @@ impl<'e> ItemWriter for TestWriter<'e> {
     type Item = TestView;
 
     ghost takes = { λ writer test.
-        AllByRecursion (Fits writer.events.now writer.gaps.now) test.attempts.items };
+        AllByRecursion (λ attempt.
+        Fits writer.events.now writer.gaps.now attempt.from attempt.to) test.attempts.items };
 
     ghost value_of = { λ writer test. test_value writer.events.now (row_of test) };
 

@@ -1,13 +1,15 @@
 //! What an event tells of the test or the attempt that it is of.
 ghost use Rattle.std.specs.Prelude.{◌≡◌, option_map};
-ghost use Rattle.rec_view_json.specs.Told.{cancels, core_cancels, core_reason, core_retry};
-ghost use Rattle.rec_view_json.specs.Told.{core_slot, core_slow, core_stress, is_slow};
-ghost use Rattle.rec_view_json.specs.Told.{output_status, output_stress, reason_told};
-ghost use Rattle.rec_view_json.specs.Told.{retry_told, slot_told, status_told, stress_told};
+ghost use Rattle.rec_view_json.specs.Told.{cancels, core_cancels, core_index, core_reason};
+ghost use Rattle.rec_view_json.specs.Told.{core_retry, core_script, core_slot, core_slow};
+ghost use Rattle.rec_view_json.specs.Told.{core_stress, index_told, is_slow, output_script_status};
+ghost use Rattle.rec_view_json.specs.Told.{output_status, output_stress, reason_told, retry_told};
+ghost use Rattle.rec_view_json.specs.Told.{script_status_told, script_told, slot_told};
+ghost use Rattle.rec_view_json.specs.Told.{status_told, stress_told};
 
 use rec_events::{
-    CoreEventKind, ExecuteStatus, MismatchReason, OutputEventKind, OutputSpec, RetryData,
-    StressIndexSummary, TestEventKindSummary,
+    CoreEventKind, ExecuteStatus, MismatchReason, OutputEventKind, OutputSpec, RetryData, ScriptId,
+    SetupScriptExecuteStatus, StressIndexSummary, TestEventKindSummary,
 };
 
 fn core_slot(kind: &CoreEventKind) -> Option<u64>
@@ -44,10 +46,29 @@ fn core_reason(kind: &CoreEventKind) -> Option<MismatchReason>
     }
 }
 
+fn core_index(kind: &CoreEventKind) -> Option<usize>
+    ensures { result ≡ core_index kind.now }
+{
+    match kind {
+        CoreEventKind::SetupScriptStarted { index, .. } => Some(*index),
+        _ => None,
+    }
+}
+
+fn core_script(kind: &CoreEventKind) -> Option<&ScriptId>
+    ensures { option_map (λ id. id.now) result ≡ core_script kind.now }
+{
+    match kind {
+        CoreEventKind::SetupScriptStarted { script_id, .. } => Some(script_id),
+        _ => None,
+    }
+}
+
 fn core_stress(kind: &CoreEventKind) -> Option<StressIndexSummary>
     ensures { result ≡ core_stress kind.now }
 {
     match kind {
+        CoreEventKind::SetupScriptStarted { stress_index, .. } => *stress_index,
         CoreEventKind::TestStarted { stress_index, .. } => *stress_index,
         CoreEventKind::TestRetryStarted { stress_index, .. } => *stress_index,
         CoreEventKind::TestSkipped { stress_index, .. } => *stress_index,
@@ -94,6 +115,18 @@ fn output_status<S: OutputSpec>(kind: &OutputEventKind<S>) -> Option<&ExecuteSta
     }
 }
 
+fn output_script_status<S: OutputSpec>(
+    kind: &OutputEventKind<S>,
+) -> Option<&SetupScriptExecuteStatus<S>>
+    ensures { option_map (λ status. status.now) result ≡ output_script_status kind.now }
+{
+    match kind {
+        OutputEventKind::SetupScriptFinished { run_status, .. } => Some(run_status),
+        OutputEventKind::TestAttemptFailedWillRetry { .. } => None,
+        OutputEventKind::TestFinished { .. } => None,
+    }
+}
+
 /// Returns the slot of an attempt that starts.
 pub(crate) fn slot_told<S: OutputSpec>(kind: &TestEventKindSummary<S>) -> Option<u64>
     ensures { result ≡ slot_told kind.now }
@@ -124,7 +157,27 @@ pub(crate) fn reason_told<S: OutputSpec>(kind: &TestEventKindSummary<S>) -> Opti
     }
 }
 
-/// Returns the sub-run that a test belongs to.
+/// Returns how many setup scripts stand before one that starts.
+pub(crate) fn index_told<S: OutputSpec>(kind: &TestEventKindSummary<S>) -> Option<usize>
+    ensures { result ≡ index_told kind.now }
+{
+    match kind {
+        TestEventKindSummary::Core(kind) => core_index(kind),
+        TestEventKindSummary::Output(_) => None,
+    }
+}
+
+/// Says which setup script it is that starts.
+pub(crate) fn script_told<S: OutputSpec>(kind: &TestEventKindSummary<S>) -> Option<&ScriptId>
+    ensures { option_map (λ id. id.now) result ≡ script_told kind.now }
+{
+    match kind {
+        TestEventKindSummary::Core(kind) => core_script(kind),
+        TestEventKindSummary::Output(_) => None,
+    }
+}
+
+/// Returns the sub-run that a test or a setup script belongs to.
 pub(crate) fn stress_told<S: OutputSpec>(
     kind: &TestEventKindSummary<S>,
 ) -> Option<StressIndexSummary>
@@ -145,6 +198,18 @@ pub(crate) fn status_told<S: OutputSpec>(
     match kind {
         TestEventKindSummary::Core(_) => None,
         TestEventKindSummary::Output(kind) => output_status(kind),
+    }
+}
+
+/// Returns the status of the setup script that an event ends.
+pub(crate) fn script_status_told<S: OutputSpec>(
+    kind: &TestEventKindSummary<S>,
+) -> Option<&SetupScriptExecuteStatus<S>>
+    ensures { option_map (λ status. status.now) result ≡ script_status_told kind.now }
+{
+    match kind {
+        TestEventKindSummary::Core(_) => None,
+        TestEventKindSummary::Output(kind) => output_script_status(kind),
     }
 }
 

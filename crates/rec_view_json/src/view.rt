@@ -10,18 +10,20 @@ ghost use Rattle.rec_forms.specs.Times.{stamp_value};
 ghost use Rattle.rec_view.specs.Acts.{acts};
 ghost use Rattle.rec_view.specs.Counts.{AreCounts};
 ghost use Rattle.rec_view.specs.Rows.{rows, rows_of};
+ghost use Rattle.rec_view.specs.Scripts.{script_acts, scripts};
 ghost use Rattle.rec_view.specs.ShownGaps.{AreGaps};
 ghost use Rattle.rec_view.specs.Slices.{pauses};
 ghost use Rattle.rec_view.specs.Tests.{verdicts};
 ghost use Rattle.rec_view.specs.Unnamed.{unnamed};
 ghost use Rattle.rec_view_json.specs.Told.{cancels, instant_at, is_slow};
-ghost use Rattle.rec_view_json.specs.Views.{counts_value, event_if, history_of, slice_value};
-ghost use Rattle.rec_view_json.specs.Views.{some_values, test_value, view_value};
+ghost use Rattle.rec_view_json.specs.Views.{counts_value, event_if, history_of, script_value};
+ghost use Rattle.rec_view_json.specs.Views.{slice_value, some_values, test_value, view_value};
 
 use crate::counts::with_counts;
 use crate::lists::{with_list, with_some};
 use crate::marks::{CancelWriter, SlowWriter};
 use crate::positions::{instant_at, last_instant};
+use crate::scripts::ScriptWriter;
 use crate::slices::SliceWriter;
 use crate::tests::TestWriter;
 use rec_events::{RecordingSpec, TestEventSummary};
@@ -74,6 +76,7 @@ fn write_view<R: Form>(
     view: &RunView,
 ) -> Result<(), AllocError>
     requires tests { rows view.now.tests ≡ rows_of (acts events.now) }
+    requires scripts { view.now.scripts ≡ scripts (script_acts events.now) }
     requires counts { AreCounts (verdicts (acts events.now)) view.now.counts }
     requires unnamed { view.now.unnamed ≡ unnamed events.now }
     ensures { OnOk result
@@ -96,6 +99,7 @@ fn write_object<R: Form>(
     gaps: &ShownGaps,
 ) -> Result<(), AllocError>
     requires tests { rows view.now.tests ≡ rows_of (acts events.now) }
+    requires scripts { view.now.scripts ≡ scripts (script_acts events.now) }
     requires counts { AreCounts (verdicts (acts events.now)) view.now.counts }
     requires unnamed { view.now.unnamed ≡ unnamed events.now }
     requires gaps { AreGaps (history_of events.now) gaps.now }
@@ -106,6 +110,7 @@ fn write_object<R: Form>(
     let object = with_ends(object, alloc, text, events, view)?;
     let object = with_pauses(object, alloc, text, events, gaps)?;
     let object = object.field(text, "run", run);
+    let object = with_scripts(object, alloc, text, events, view, gaps)?;
     let object = with_some(object, alloc, text, "slow", &SlowWriter, events)?;
     let object = with_tests(object, alloc, text, events, view, gaps)?;
     object.end(text)
@@ -152,6 +157,32 @@ fn with_pauses(
     let pauses = gaps.pauses(alloc)?;
     let writer = SliceWriter { events };
     with_list(object, alloc, text, "pauses", &writer, pauses.as_slice())
+}
+
+/// Writes the setup scripts of a run.
+fn with_scripts(
+    object: ObjectWriter,
+    alloc: Global,
+    text: &mut JsonText,
+    events: &[TestEventSummary<RecordingSpec>],
+    view: &RunView,
+    gaps: &ShownGaps,
+) -> Result<ObjectWriter, AllocError>
+    requires scripts { view.now.scripts ≡ scripts (script_acts events.now) }
+    requires gaps { AreGaps (history_of events.now) gaps.now }
+    ensures { IfOk result (λ w. Writes object text.old w text.new
+        (field (codes "scripts")
+        (list_value (script_value events.now) (scripts (script_acts events.now))) ∷ []) ⊤) }
+{
+    let writer = ScriptWriter { events, gaps };
+    with_list(
+        object,
+        alloc,
+        text,
+        "scripts",
+        &writer,
+        view.scripts.as_slice(),
+    )
 }
 
 /// Writes the tests of a run.

@@ -54,6 +54,15 @@ fn second() -> &'static str {
     )
 }
 
+/// A setup script that could not be started.
+fn script() -> &'static str {
+    concat!(
+        r#"{"env-map":{"PORT":"1"},"is-slow":false,"output":{"start-error":"none"},"#,
+        r#""result":"exec-fail","start-time":{"nanos":0,"offset":0,"secs":1},"#,
+        r#""time-taken":{"nanos":0,"secs":4}}"#
+    )
+}
+
 /// The counts of a view without tests, up to those that are unfinished.
 fn none() -> &'static str {
     r#""failed":0,"flaky":0,"not-started":0,"passed":0,"skipped":0"#
@@ -73,6 +82,8 @@ fn named(piece: &str) -> &str {
         first()
     } else if piece == "second" {
         second()
+    } else if piece == "script" {
+        script()
     } else if piece == "none" {
         none()
     } else {

@@ -76,7 +76,7 @@ const ATTEMPTS: &[Case] = &[
         concat!(
             r#"{"begin":$1$,"cancelled":[],"#,
             r#""counts":{"failed":0,"flaky":1,"not-started":0,"passed":0,"skipped":0,"#,
-            r#""unfinished":0,"unnamed":0},"end":$6$,"pauses":[],"run":7,"#,
+            r#""unfinished":0,"unnamed":0},"end":$6$,"pauses":[],"run":7,"scripts":[],"#,
             r#""slow":[{"elapsed":{"nanos":0,"secs":1},"kind":"test-slow","#,
             r#""retry-data":{"attempt":1,"total-attempts":2},"#,
             r#""slow-elapsed":{"nanos":0,"secs":9},$test$,"timestamp":$2$,"#,
@@ -97,7 +97,7 @@ const ATTEMPTS: &[Case] = &[
         concat!(
             r#"{"begin":$1$,"cancelled":[],"#,
             r#""counts":{"failed":1,"flaky":0,"not-started":0,"passed":0,"skipped":0,"#,
-            r#""unfinished":0,"unnamed":0},"end":$1$,"pauses":[],"run":7,"slow":[],"#,
+            r#""unfinished":0,"unnamed":0},"end":$1$,"pauses":[],"run":7,"scripts":[],"slow":[],"#,
             r#""tests":[{"attempts":[],"binary-id":"b","stress-index":{"current":0},"#,
             r#""test-name":"a","verdict":"failed"}]}"#
         ),
@@ -119,7 +119,7 @@ const PAUSES: &[Case] = &[
         ],
         concat!(
             r#"{"begin":$1$,"cancelled":[],"counts":{$none$,"unfinished":1,"unnamed":0},"#,
-            r#""end":$6$,"pauses":[[$2$,$4$],[$6$,$6$]],"run":7,"slow":[],"#,
+            r#""end":$6$,"pauses":[[$2$,$4$],[$6$,$6$]],"run":7,"scripts":[],"slow":[],"#,
             r#""tests":[{"attempts":[{"slices":[[$1$,$2$],[$4$,$6$]],"slot":0,"started":$1$}],"#,
             r#""binary-id":"b","test-name":"a","verdict":"unfinished"}]}"#
         ),
@@ -140,7 +140,7 @@ const PAUSES: &[Case] = &[
         concat!(
             r#"{"begin":$1$,"cancelled":[],"#,
             r#""counts":{"failed":0,"flaky":0,"not-started":0,"passed":1,"skipped":0,"#,
-            r#""unfinished":0,"unnamed":0},"end":$3$,"pauses":[],"run":7,"slow":[],"#,
+            r#""unfinished":0,"unnamed":0},"end":$3$,"pauses":[],"run":7,"scripts":[],"slow":[],"#,
             r#""tests":[{"attempts":[{"ended":$3$,"slices":[[$1$,$3$]],"slot":0,"started":$1$,"#,
             r#""status":$second$}],"binary-id":"b","test-name":"a","verdict":"passed"}]}"#
         ),
@@ -162,7 +162,7 @@ const PAUSES: &[Case] = &[
         concat!(
             r#"{"begin":$1$,"cancelled":[],"#,
             r#""counts":{"failed":1,"flaky":0,"not-started":0,"passed":0,"skipped":0,"#,
-            r#""unfinished":0,"unnamed":0},"end":$4$,"pauses":[[$1$,$4$]],"run":7,"slow":[],"#,
+            r#""unfinished":0,"unnamed":0},"end":$4$,"pauses":[[$1$,$4$]],"run":7,"scripts":[],"slow":[],"#,
             r#""tests":[{"attempts":[{"ended":$3$,"slices":[[$2$,$2$],[$3$,$3$]],"slot":0,"#,
             r#""started":$2$,"status":$first$}],"#,
             r#""binary-id":"b","test-name":"a","verdict":"failed"}]}"#
@@ -176,7 +176,7 @@ const OTHERS: &[Case] = &[
     (
         &[],
         concat!(
-            r#"{"cancelled":[],"counts":{$none$,"unfinished":0,"unnamed":0},"pauses":[],"run":7,"#,
+            r#"{"cancelled":[],"counts":{$none$,"unfinished":0,"unnamed":0},"pauses":[],"run":7,"scripts":[],"#,
             r#""slow":[],"tests":[]}"#
         ),
     ),
@@ -207,7 +207,7 @@ const OTHERS: &[Case] = &[
             r#""kind":"run-begin-cancel","reason":"interrupt","running":0,"#,
             r#""setup-scripts-running":0,"timestamp":$1$}],"#,
             r#""counts":{"failed":0,"flaky":0,"not-started":1,"passed":0,"skipped":1,"#,
-            r#""unfinished":0,"unnamed":2},"end":$4$,"pauses":[],"run":7,"#,
+            r#""unfinished":0,"unnamed":2},"end":$4$,"pauses":[],"run":7,"scripts":[],"#,
             r#""slow":[{"args":[],"elapsed":{"nanos":0,"secs":1},"kind":"setup-script-slow","#,
             r#""program":"sh","script-id":"s","slow-elapsed":{"nanos":0,"secs":9},"#,
             r#""timestamp":$2$,"will-terminate":true}],"#,
@@ -217,6 +217,44 @@ const OTHERS: &[Case] = &[
         ),
     ),
 ];
+
+/// Runs with setup scripts.
+const SCRIPTS: &[Case] = &[
+    // one that isn't started is over after a pause, and one on the next row has no end
+    (
+        &[
+            concat!(
+                r#"1 "kind":"setup-script-started","index":0,"total":2,"script-id":"s","#,
+                r#""program":"sh","args":[],"no-capture":false,"stress-index":{"current":0}"#
+            ),
+            r#"2 "kind":"run-paused","setup-scripts-running":1,"running":0"#,
+            r#"4 "kind":"run-continued","setup-scripts-running":1,"running":0"#,
+            concat!(
+                r#"5 "kind":"setup-script-finished","index":0,"total":2,"script-id":"s","#,
+                r#""program":"sh","args":[],"no-capture":false,"run-status":$script$"#
+            ),
+            concat!(
+                r#"6 "kind":"setup-script-started","index":1,"total":2,"script-id":"t","#,
+                r#""program":"sh","args":[],"no-capture":false"#
+            ),
+        ],
+        concat!(
+            r#"{"begin":$1$,"cancelled":[],"counts":{$none$,"unfinished":0,"unnamed":0},"#,
+            r#""end":$6$,"pauses":[[$2$,$4$]],"run":7,"#,
+            r#""scripts":[{"ended":$5$,"index":0,"script-id":"s","#,
+            r#""slices":[[$1$,$2$],[$4$,$5$]],"started":$1$,"status":$script$,"#,
+            r#""stress-index":{"current":0}},"#,
+            r#"{"index":1,"script-id":"t","slices":[[$6$,$6$]],"started":$6$}],"#,
+            r#""slow":[],"tests":[]}"#
+        ),
+    ),
+];
+
+#[test]
+fn scripts_have_their_instants_and_statuses(rt: HostRuntime) -> Result<(), AllocError> {
+    assert!(rt; are_viewed(rt.alloc(), SCRIPTS)?);
+    Ok(())
+}
 
 #[test]
 fn attempts_have_their_instants_and_statuses(rt: HostRuntime) -> Result<(), AllocError> {

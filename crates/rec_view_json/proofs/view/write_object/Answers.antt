@@ -7,5 +7,5 @@ pub returns : goal.returns
 unfolding view_value
 returns g c =
     let all = c.in_ok-object.ensures ▸ c.in_ok-object-2.ensures ▸ c.field-object.ensures ▸
-    c.in_ok-object-3.ensures ▸ c.in_ok-object-4.ensures in
+    c.in_ok-object-3.ensures ▸ c.in_ok-object-4.ensures ▸ c.in_ok-object-5.ensures in
     c.end.ensures.written _ _ (λ ok. all_written c.begin-object.ensures all ok)

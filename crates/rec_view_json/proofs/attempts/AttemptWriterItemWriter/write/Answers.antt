@@ -10,10 +10,10 @@ returns c =
     c.optional-object-3.ensures ▸ c.optional-object-4.ensures ▸ c.in_ok-object-2.ensures in
     c.end.ensures.written _ _
     (λ ok. rw (
-      ← c.end_of-ended.ensures,
+      ← c.end_at-ended.ensures,
       ← c.retry_at-retry.ensures,
       ← c.slot_at-slot.ensures,
       ← c.instant_at-started.ensures,
-      ← c.status_of-status.ensures,
+      ← c.status_at-status.ensures,
     )
     (all_written c.begin-object.ensures all ok))
