@@ -1,5 +1,5 @@
--- Where attempts start and end, by positions.
-use Rattle.std.proofs.Common.{◌≡◌, ◌≤◌, ◌<◌, ◌⊎◌, ◌↔◌, inl, inr, ℕ, zero, suc, ◌+◌, ◌-◌, Bool}
+-- Where attempts start, by positions.
+use Rattle.std.proofs.Common.{◌≡◌, ◌≤◌, ◌⊎◌, ◌↔◌, inl, inr, ℕ, zero, suc, ◌+◌, Bool}
 use Rattle.std.proofs.Common.{true, false, List, [], ◌∷◌, drop, take, reverse, slice_get, refl, ap}
 use Rattle.std.proofs.Common.{sym, ◌∙◌, arith, Option, Some, None, if◌then◌else◌}
 use Rattle.std.specs.Option.{option_map_or}
@@ -8,78 +8,14 @@ use Rattle.rec_events.specs.declared.instances.OwnedTestInstanceId.{OwnedTestIns
 use Rattle.rec_events.specs.Tests.{test_eq}
 use Rattle.rec_spans.specs.Positions.{Has}
 use Rattle.rec_view.proofs.Attempts.{differ}
+use Rattle.rec_view.proofs.Ends.{ahead, at-drop}
 use Rattle.rec_view.proofs.TestPositions.{test_to}
 use Rattle.rec_view.specs.Acts.Act.{Starts, Retries, Fails, Ends, Skips, RunEnds, Silent}
 use Rattle.rec_view.specs.Acts.{Act}
-use Rattle.rec_view.specs.AttemptPositions.{IsAttempt, IsEnd, at, starts_attempt}
-use Rattle.rec_view.specs.Attempts.{cuts, end_of, first_from, is_retry, retries, starts_of}
+use Rattle.rec_view.specs.AttemptPositions.{IsAttempt, starts_attempt}
+use Rattle.rec_view.specs.Attempts.{is_retry, retries, starts_of}
+use Rattle.rec_view.specs.Ends.{at}
 use Rattle.rec_view.specs.Tests.{Place, is_running, is_start, opened, opens, settles, tests}
-
--- ---- positions behind others
-
-get-drop : {X : Type 0} (n : ℕ) (xs : List X) (m : ℕ)
-    → slice_get (drop n xs) m ≡ slice_get xs (n + m)
-get-drop zero xs m = ap (slice_get xs) here
-  where
-    here : m ≡ zero + m
-    here = omega arith
-get-drop (suc n) [] m = refl
-get-drop (suc n) (x ∷ xs) m = get-drop n xs m ∙ ap (slice_get (x ∷ xs)) next
-  where
-    next : suc (n + m) ≡ suc n + m
-    next = omega arith
-
-pub at-drop : (p : Act → Bool) (acts : List Act) (n m : ℕ)
-    → at p (drop n acts) m ≡ at p acts (n + m)
-at-drop p acts n m = ap (λ o. option_map_or p o false) (get-drop n acts m)
-
-pub ahead : (a b : ℕ) → a ≤ b → (m : ℕ) × (b ≡ a + m)
-ahead a b h = (b - a, omega (arith, h))
-
--- ---- ends
-
-abbrev FirstIs : (Act → Bool) → ℕ → List Act → Option ℕ → Type 0
-FirstIs p i xs None = (m : ℕ) → at p xs m ≡ false
-FirstIs p i xs (Some z) =
-    (m : ℕ) × (z ≡ i + m) × (at p xs m ≡ true) × ((j : ℕ) → j < m → at p xs j ≡ false)
-
-first_is : (p : Act → Bool) (i : ℕ) (xs : List Act) → FirstIs p i xs (first_from p i xs)
-first_is p i [] = λ m. refl
-first_is p i (x ∷ xs) = by (p x) refl (first_is p (suc i) xs)
-  where
-    from_none : p x ≡ false → ((m : ℕ) → at p xs m ≡ false) → (m : ℕ) → at p (x ∷ xs) m ≡ false
-    from_none e h zero = e
-    from_none e h (suc m) = h m
-
-    from_some : (m : ℕ) → p x ≡ false → ((j : ℕ) → j < m → at p xs j ≡ false) → (j : ℕ)
-        → j < suc m → at p (x ∷ xs) j ≡ false
-    from_some m e h zero l = e
-    from_some m e h (suc j) l = h j (omega (arith, l))
-
-    later : (o : Option ℕ) → p x ≡ false → FirstIs p (suc i) xs o → FirstIs p i (x ∷ xs) o
-    later None e h = from_none e h
-    later (Some z) e (m, is, yes_at, no_before) =
-        (suc m, omega (arith, is), yes_at, from_some m e no_before)
-
-    by : (b : Bool) → p x ≡ b → FirstIs p (suc i) xs (first_from p (suc i) xs)
-        → FirstIs p i (x ∷ xs) (if b then Some i else first_from p (suc i) xs)
-    by true e more = (zero, omega arith, e, (λ j h. absurd (omega (arith, h))))
-    by false e more = later (first_from p (suc i) xs) e more
-
-pub end_is : (acts : List Act) (t : OwnedTestInstanceId) (k : ℕ) → IsEnd acts t k (end_of acts t k)
-end_is acts t k = by (end_of acts t k) (first_is (cuts t) (suc k) (drop (suc k) acts))
-  where
-    moved : (j m : ℕ) → j ≡ suc k + m → at (cuts t) acts j ≡ at (cuts t) (drop (suc k) acts) m
-    moved j m is = ap (at (cuts t) acts) is ∙ sym (at-drop (cuts t) acts (suc k) m)
-
-    by : (o : Option ℕ) → FirstIs (cuts t) (suc k) (drop (suc k) acts) o → IsEnd acts t k o
-    by None h = λ j l. let d = ahead (suc k) j (omega (arith, l)) in moved j d.0 d.1 ∙ h d.0
-    by (Some z) (m, is, yes_at, no_before) = (
-      omega (arith, is),
-      moved z m is ∙ yes_at,
-      λ j l u. let d = ahead (suc k) j (omega (arith, l)) in let e = d.1 in
-          moved j d.0 e ∙ no_before d.0 (omega (arith, e, is, u)),
-    )
 
 -- ---- further attempts
 

@@ -1,6 +1,7 @@
 -- The span of an attempt lasts as the attempt does.
-use Rattle.std.proofs.Common.{◌≡◌, ◌<◌, ℕ, zero, suc, Bool, true, false, List, [], ◌∷◌, length}
-use Rattle.std.proofs.Common.{map, refl, ap, sym, ◌∙◌, arith, Option, Some, None}
+use Rattle.std.proofs.Common.{◌≡◌, ℕ, zero, suc, true, false, List, [], ◌∷◌, length, map, refl}
+use Rattle.std.proofs.Common.{ap, sym, ◌∙◌, Some, subst}
+use Rattle.std.proofs.lemmas.List.{length-map}
 use Rattle.std.specs.Option.{option_map_or, unwrap_or}
 use Rattle.rec_events.proofs.TestOrder.{test_eq-true}
 use Rattle.rec_events.specs.declared.events.CoreEventKind.TheVariants.{
@@ -38,18 +39,15 @@ use Rattle.rec_spans.specs.Past.Change.{Start}
 use Rattle.rec_spans.specs.Past.{Change, TraceInput, binaries}
 use Rattle.rec_spans.specs.Plain.{plain, plain_kind}
 use Rattle.rec_spans.specs.Positions.{change_at}
-use Rattle.rec_view.proofs.AttemptPositions.{end_is}
 use Rattle.rec_view.proofs.Attempts.{differ}
-use Rattle.rec_view.specs.Acts.{Act, act_of, acts, core_act}
-use Rattle.rec_view.specs.AttemptPositions.{IsEnd, at, starts_attempt}
+use Rattle.rec_view.proofs.Ends.{below, end_is}
+use Rattle.rec_view.proofs.GapRuns.{history-many}
+use Rattle.rec_view.proofs.SpanEnds.{span_lasts}
+use Rattle.rec_view.specs.Acts.{act_of, acts, core_act}
+use Rattle.rec_view.specs.AttemptPositions.{starts_attempt}
 use Rattle.rec_view.specs.Attempts.{cuts, end_of}
-use Rattle.rec_view.specs.Extents.{HasSpan, Lasts, cuts_key}
-
--- what stands at a position is below the length
-below : (p : Act → Bool) (xs : List Act) (k : ℕ) → at p xs k ≡ true → k < length xs
-below p [] k h = differ (sym h)
-below p (x ∷ xs) zero h = omega arith
-below p (x ∷ xs) (suc k) h = let b = below p xs k h in omega (arith, b)
+use Rattle.rec_view.specs.Ends.{at}
+use Rattle.rec_view.specs.Extents.{HasSpan, cuts_key}
 
 -- ---- events without outputs
 
@@ -140,16 +138,6 @@ module _ {S O : Type 0} (g : ChromeTraceGroupBy) (t : OwnedTestInstanceId) where
   cuts_at past (e ∷ events) (suc j) =
       cuts_at (trace_input g (binaries past) (plain e) ∷ past) events j
 
-  many : (past : List TraceInput) (events : List (TestEventSummary S O))
-      → length (history_after g past (map plain events)) ≡ length events
-  many past [] = refl
-  many past (e ∷ events) =
-      ap suc (many (trace_input g (binaries past) (plain e) ∷ past) events)
-
-  acts_many : (events : List (TestEventSummary S O)) → length (acts events) ≡ length events
-  acts_many [] = refl
-  acts_many (e ∷ events) = ap suc (acts_many events)
-
   starts_at : (past : List TraceInput) (events : List (TestEventSummary S O)) (k : ℕ)
       → at (starts_attempt t) (acts events) k ≡ true
       → (s : Span) × (s.key ≡ Test t)
@@ -165,36 +153,16 @@ module _ {S O : Type 0} (g : ChromeTraceGroupBy) (t : OwnedTestInstanceId) where
     abbrev inputs : List TraceInput
     inputs = history g (map plain events)
 
-    abbrev last : ℕ
-    last = unwrap_or (end_of (acts events) t k) (length events)
+    acts_many : length (acts events) ≡ length events
+    acts_many = length-map events (λ e. act_of e.kind)
 
-    lasts : (s : Span) → s.key ≡ Test t → change_at inputs k ≡ Some (Start s) → (o : Option ℕ)
-        → IsEnd (acts events) t k o → Lasts inputs k (unwrap_or o (length events)) s
-    lasts s key is None none = record {
-      starts = is;
-      later = let e = acts_many events in let b = below (starts_attempt t) (acts events) k starts in
-          omega (arith, e, b);
-      within = let e = many [] events in omega (arith, e);
-      cut = λ lt. let e = many [] events in absurd (omega (arith, e, lt));
-      first = λ j l u. ap (λ n. option_map_or (cuts_key n) (change_at inputs j) false) key
-          ∙ cuts_at [] events j ∙ none j l;
-    }
-    lasts s key is (Some z) (later, ends, none) = record {
-      starts = is;
-      later = later;
-      within = let e = acts_many events in let d = many [] events in
-          let b = below (cuts t) (acts events) z ends in omega (arith, e, d, b);
-      cut = λ lt. ap (λ n. option_map_or (cuts_key n) (change_at inputs z) false) key
-          ∙ cuts_at [] events z ∙ ends;
-      first = λ j l u. ap (λ n. option_map_or (cuts_key n) (change_at inputs j) false) key
-          ∙ cuts_at [] events j ∙ none j l u;
-    }
+    many : length inputs ≡ length (acts events)
+    many = history-many g [] (map plain events) ∙ length-map events plain ∙ sym acts_many
 
-    pub has_span : HasSpan inputs t k last
+    pub has_span : HasSpan inputs (Test t) k (unwrap_or (end_of (acts events) t k) (length events))
     has_span =
         let s = starts_at [] events k starts in
-        record {
-          span = s.0;
-          key = s.1;
-          lasts = lasts s.0 s.1 s.2 (end_of (acts events) t k) (end_is (acts events) t k);
-        }
+        subst (λ n. HasSpan inputs (Test t) k (unwrap_or (end_of (acts events) t k) n)) acts_many
+        (span_lasts inputs (acts events) (cuts t) (Test t) many (cuts_at [] events) k s.0 s.1 s.2
+        (below (starts_attempt t) (acts events) k starts) (end_of (acts events) t k)
+        (end_is (cuts t) (acts events) k))

@@ -14,9 +14,10 @@ use Rattle.rec_view.proofs.Open.{drop_last, get_before, get_last, new-open, open
 use Rattle.rec_view.proofs.Tests.{drop-push}
 use Rattle.rec_view.specs.Acts.Act.{Starts, Retries, Fails, Ends, Skips, RunEnds, Silent}
 use Rattle.rec_view.specs.Acts.{Act}
-use Rattle.rec_view.specs.Attempts.{attempt, attempts, cuts, end_of, first_from, is_retry, retries}
+use Rattle.rec_view.specs.Attempts.{attempt, attempts, cuts, end_of, is_retry, retries}
 use Rattle.rec_view.specs.Attempts.{starts_of}
 use Rattle.rec_view.specs.declared.test_views.Attempt.{Attempt}
+use Rattle.rec_view.specs.Ends.{first_from}
 use Rattle.rec_view.specs.Open.{is_open}
 use Rattle.rec_view.specs.Tests.{Place, fate, is_start, opens, place, settles}
 use Rattle.rec_view.specs.Walked.{begun_at, close_last}

@@ -150,7 +150,7 @@ same_kind h g at e wanted b are run is j l u =
         gap_is h g.shown.items at b (subst (λ n. AreShown h n g.shown.items) (sym many) are.shown)
         (omega (arith, l, u, w)) is
 
-history-many : (g : ChromeTraceGroupBy) (past : List TraceInput) (events : List PlainEvent)
+pub history-many : (g : ChromeTraceGroupBy) (past : List TraceInput) (events : List PlainEvent)
     → length (history_after g past events) ≡ length events
 history-many g past [] = refl
 history-many g past (e ∷ events) =

@@ -3,10 +3,15 @@ pub mod Orders
 pub mod Slices
 pub mod Open
 pub mod Attempts
+pub mod Ends
 pub mod AttemptPositions
 pub mod TestPositions
 pub mod OneTest
+pub mod SpanEnds
 pub mod AttemptSpans
+pub mod ScriptPositions
+pub mod ScriptSpans
+pub mod ScriptsWalked
 pub mod Rows
 pub mod Extents
 pub mod Walks

@@ -10,13 +10,15 @@ use Rattle.rec_events.specs.declared.instances.OwnedTestInstanceId.{OwnedTestIns
 use Rattle.rec_events.specs.Tests.{test_eq}
 use Rattle.rec_spans.proofs.PlacesOfHistory.{Has-filter}
 use Rattle.rec_spans.specs.Positions.{Has}
-use Rattle.rec_view.proofs.AttemptPositions.{ahead, at-drop, attempt_from, attempt_to}
+use Rattle.rec_view.proofs.AttemptPositions.{attempt_from, attempt_to}
 use Rattle.rec_view.proofs.Attempts.{differ}
+use Rattle.rec_view.proofs.Ends.{ahead, at-drop}
 use Rattle.rec_view.proofs.Open.{one_open}
 use Rattle.rec_view.proofs.TestPositions.{IsOpened, test_from, test_to}
 use Rattle.rec_view.specs.Acts.Act.{Starts, Retries, Fails, Ends, Skips, RunEnds, Silent}
 use Rattle.rec_view.specs.Acts.{Act}
-use Rattle.rec_view.specs.AttemptPositions.{IsAttempt, OfOneTest, at, starts_attempt}
+use Rattle.rec_view.specs.AttemptPositions.{IsAttempt, OfOneTest, starts_attempt}
+use Rattle.rec_view.specs.Ends.{at}
 use Rattle.rec_view.specs.Open.{OneOpen, is_open, open_of}
 use Rattle.rec_view.specs.Tests.{Place, fate, is_running, is_start, opened, opens, place, settles}
 use Rattle.rec_view.specs.Tests.{tests}

@@ -1,6 +1,6 @@
 -- The tests without names, counted event by event.
-use Rattle.std.proofs.Common.{◌≡◌, ℕ, zero, suc, ◌+◌, List, [], ◌∷◌, drop, slice_get, Some, refl}
-use Rattle.std.proofs.Common.{ap, sym, ◌∙◌, arith}
+use Rattle.std.proofs.Common.{◌≡◌, ℕ, zero, suc, ◌+◌, List, [], ◌∷◌, drop, slice_get, Some}
+use Rattle.std.proofs.Common.{ap, arith}
 use Rattle.rec_events.specs.declared.events.TestEventSummary.{TestEventSummary}
 use Rattle.rec_view.proofs.GapsShown.{some_same}
 use Rattle.rec_view.specs.Unnamed.{kind_unnamed, unnamed}

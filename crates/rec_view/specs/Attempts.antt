@@ -1,11 +1,12 @@
 -- The attempts of a test, and where each ends. They are there of every history.
 use Rattle.std.specs.Prelude.{ℕ, suc, Bool, false, List, [], ◌∷◌}
-use Rattle.std.specs.Prelude.{drop, map, Option, Some, None, if◌then◌else◌}
+use Rattle.std.specs.Prelude.{drop, map, Option, if◌then◌else◌}
 use Rattle.rec_events.specs.declared.instances.OwnedTestInstanceId.{OwnedTestInstanceId}
 use Rattle.rec_events.specs.Tests.{test_eq}
 use Rattle.rec_view.specs.Acts.Act.{Starts, Retries, Fails, Ends}
 use Rattle.rec_view.specs.Acts.{Act}
 use Rattle.rec_view.specs.declared.test_views.Attempt.{Attempt}
+use Rattle.rec_view.specs.Ends.{first_from}
 use Rattle.rec_view.specs.Tests.{Place, opens, settles}
 
 -- ---- what an event says of an attempt
@@ -24,12 +25,6 @@ cuts t (Ends test verdict) = test_eq test t
 cuts t _ = false
 
 -- ---- the attempts
-
--- the position of the first of these acts that passes, where they stand from i on
-abbrev pub first_from : (Act → Bool) → ℕ → List Act → Option ℕ
-first_from passes i [] = None
-first_from passes i (act ∷ acts) =
-    if passes act then Some i else first_from passes (suc i) acts
 
 -- where an attempt of a name that stands at k ends
 abbrev pub end_of : List Act → OwnedTestInstanceId → ℕ → Option ℕ

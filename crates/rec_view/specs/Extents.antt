@@ -1,9 +1,7 @@
 -- How long a span lasts in any history, also in one that has no trace.
 use Rattle.std.specs.Option.{option_map_or}
 use Rattle.std.specs.Prelude.{◌≡◌, ◌<◌, ◌≤◌, ℕ, Bool, true, false, List, length, Some}
-use Rattle.rec_events.specs.declared.instances.OwnedTestInstanceId.{OwnedTestInstanceId}
 use Rattle.rec_spans.specs.declared.spans.Span.{Span}
-use Rattle.rec_spans.specs.declared.spans.SpanKey.TheVariants.{Test}
 use Rattle.rec_spans.specs.declared.spans.SpanKey.{SpanKey}
 use Rattle.rec_spans.specs.Keys.{key_eq}
 use Rattle.rec_spans.specs.Past.Change.{Start, Stop, Pause, Resume, Other}
@@ -28,8 +26,8 @@ pub record Lasts (history : List TraceInput) (a z : ℕ) (s : Span) : Type 0 whe
   pub first : (k : ℕ) → a < k → k < z
       → option_map_or (cuts_key s.key) (change_at history k) false ≡ false
 
--- an attempt of a test starts at a, and its span lasts to z
-pub record HasSpan (history : List TraceInput) (t : OwnedTestInstanceId) (a z : ℕ) : Type 0 where
+-- what has this key starts at a, and its span lasts to z
+pub record HasSpan (history : List TraceInput) (key : SpanKey) (a z : ℕ) : Type 0 where
   pub span : Span
-  pub key : span.key ≡ Test t
+  pub key_is : span.key ≡ key
   pub lasts : Lasts history a z span

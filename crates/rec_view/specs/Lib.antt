@@ -2,10 +2,13 @@ pub mod Verdicts
 pub mod Counts
 pub mod Unnamed
 pub mod Acts
+pub mod Ends
 pub mod Tests
 pub mod Attempts
 pub mod AttemptPositions
 pub mod Extents
+pub mod Scripts
+pub mod ScriptsWalked
 pub mod Slices
 pub mod ShownGaps
 pub mod Seen

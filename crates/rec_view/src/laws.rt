@@ -8,6 +8,7 @@ ghost use Rattle.rec_events.specs.declared.statuses.ExecutionStatuses.{Execution
 ghost use Rattle.rec_rerun.specs.Acts.{pass};
 ghost use Rattle.rec_spans.specs.declared.settings.ChromeTraceGroupBy as group_by;
 ghost use Rattle.rec_spans.specs.declared.spans.Span as spans;
+ghost use Rattle.rec_spans.specs.declared.spans.SpanKey.TheVariants as keys;
 ghost use Rattle.rec_spans.specs.Kinds as kinds;
 ghost use Rattle.rec_spans.specs.Past.{TraceInput};
 ghost use Rattle.rec_spans.specs.Plain.{PlainEvent, plain};
@@ -15,11 +16,15 @@ ghost use Rattle.rec_spans.specs.Positions.{Has, IsSlice, IsSpan, IsStretch};
 ghost use Rattle.rec_spans.specs.Refusals.{events_refusal};
 ghost use Rattle.rec_spans.specs.Times.{Window};
 ghost use Rattle.rec_view.specs.Acts as acts;
-ghost use Rattle.rec_view.specs.AttemptPositions.{IsAttempt, IsEnd, OfOneTest, at, starts_attempt};
-ghost use Rattle.rec_view.specs.Attempts.{end_of, starts_of};
+ghost use Rattle.rec_view.specs.AttemptPositions.{IsAttempt, OfOneTest, starts_attempt};
+ghost use Rattle.rec_view.specs.Attempts.{cuts, end_of, starts_of};
+ghost use Rattle.rec_view.specs.declared.scripts.ScriptAct.{ScriptAct};
+ghost use Rattle.rec_view.specs.declared.scripts.ScriptView.{ScriptView};
+ghost use Rattle.rec_view.specs.Ends.{IsEnd, at};
 ghost use Rattle.rec_view.specs.Extents.{HasSpan, Lasts};
 ghost use Rattle.rec_view.specs.Laws.{InOrder, SlicesAddUp};
 ghost use Rattle.rec_view.specs.Open.{OneOpen, is_open, verdict_after};
+ghost use Rattle.rec_view.specs.Scripts.{AreInOrder, IsScript, script_acts, scripts};
 ghost use Rattle.rec_view.specs.Slices.{IsPause, all_slices, pauses, slices};
 ghost use Rattle.rec_view.specs.Tests.{Place, opened, place, tests, verdict};
 ghost use Rattle.rec_view.specs.Verdicts.{is_passing, verdict_of_end};
@@ -79,7 +84,7 @@ pub fn of_one_test()
 /// States that an attempt ends at the first later event that stops it or starts another one.
 pub fn attempt_ends()
     ensures { (all : List acts.Act) (t : OwnedTestInstanceId) (k : ℕ)
-        → IsEnd all t k (end_of all t k) }
+        → IsEnd (cuts t) all k (end_of all t k) }
 {}
 
 /// States of a history of events that has a trace that what starts lasts as its span does: up to
@@ -97,8 +102,26 @@ pub fn attempts_as_spans<S: OutputSpec>()
     ensures { (group : group_by.ChromeTraceGroupBy)
         (events : List (TestEventSummary S S.ChildOutput)) (t : OwnedTestInstanceId) (k : ℕ)
         → at (starts_attempt t) (acts.acts events) k ≡ true
-        → HasSpan (kinds.history group (map plain events)) t k
+        → HasSpan (kinds.history group (map plain events)) (keys.Test t) k
         (unwrap_or (end_of (acts.acts events) t k) (length events)) }
+{}
+
+/// States that the setup scripts of a history are exactly the starts of one, each with its end: the
+/// first later event that ends what has its index, or starts another one of it.
+pub fn scripts_by_position()
+    ensures scripts { (all : List ScriptAct) (s : ScriptView)
+        → Has (scripts all) s ↔ IsScript all s }
+    ensures order { (all : List ScriptAct) → AreInOrder (scripts all) }
+{}
+
+/// States of any events that the span of a setup script lasts as the script does: from its start to
+/// its end, or behind the last event where it has none.
+pub fn scripts_as_spans<S: OutputSpec>()
+    ensures { (group : group_by.ChromeTraceGroupBy)
+        (events : List (TestEventSummary S S.ChildOutput)) (s : ScriptView)
+        (is : IsScript (script_acts events) s)
+        → HasSpan (kinds.history group (map plain events)) (keys.Script is.index) s.from
+        (unwrap_or s.to (length events)) }
 {}
 
 /// States that the slices between two positions of any history are exactly the longest stretches

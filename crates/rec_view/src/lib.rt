@@ -5,6 +5,7 @@
 mod acts;
 mod counts;
 pub mod laws;
+mod scripts;
 mod shown_gaps;
 mod test_views;
 mod unnamed;
@@ -13,6 +14,7 @@ mod view;
 mod walk;
 
 pub use counts::Counts;
+pub use scripts::ScriptView;
 pub use shown_gaps::{ShownGaps, Slice};
 pub use test_views::{Attempt, TestView};
 pub use verdicts::Verdict;

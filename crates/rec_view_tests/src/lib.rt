@@ -4,6 +4,10 @@
 #[cfg(test)]
 mod histories;
 #[cfg(test)]
+mod script_steps;
+#[cfg(test)]
+mod scripts;
+#[cfg(test)]
 mod slices;
 #[cfg(test)]
 mod steps;

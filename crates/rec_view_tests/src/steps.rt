@@ -1,5 +1,6 @@
 //! Events of a run, made of short steps.
 
+use crate::script_steps::{script_ended, script_started};
 use rec_events::{
     ChildExecutionOutputDescription, ChildOutputDescription, CoreEventKind, Duration,
     ExecuteStatus, ExecutionResultDescription, ExecutionStatuses, FlakyResult, Items,
@@ -32,6 +33,10 @@ pub(crate) enum Step {
     SubRun,
     Pause,
     Continue,
+    /// The start of the setup script of an index.
+    ScriptStart(usize),
+    /// The end of the setup script of an index.
+    ScriptEnd(usize),
 }
 
 const NO_TIME: Duration = Duration { secs: 0, nanos: 0 };
@@ -248,6 +253,8 @@ fn kind(alloc: Global, step: Step) -> Result<TestEventKindSummary<LiveSpec>, All
         Step::SubRun => Ok(sub_run_started()),
         Step::Pause => Ok(paused()),
         Step::Continue => Ok(continued()),
+        Step::ScriptStart(index) => script_started(alloc, index),
+        Step::ScriptEnd(index) => script_ended(alloc, index),
     }
 }
 

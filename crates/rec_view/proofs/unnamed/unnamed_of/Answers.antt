@@ -1,4 +1,4 @@
-use Rattle.std.proofs.Common.{◌≡◌, ◌+◌, add-one, arith, drop, refl, suc, subst, sym}
+use Rattle.std.proofs.Common.{◌≡◌, ◌+◌, add-one, arith, drop, refl, subst, sym}
 use Rattle.rec_view.proofs.GapsShown.{got}
 use Rattle.rec_view.proofs.unnamed.unnamed_of.Goals as goal
 use Rattle.rec_view.proofs.UnnamedSums.{counted_more}

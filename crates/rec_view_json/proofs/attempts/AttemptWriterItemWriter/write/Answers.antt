@@ -1,0 +1,19 @@
+use Rattle.rec_forms.proofs.Writing.{◌▸◌, all_written}
+use Rattle.rec_view_json.proofs.attempts.AttemptWriterItemWriter.write.Goals as goal
+use Rattle.rec_view_json.specs.Views.{attempt_value}
+
+-- what the calls wrote, one after the other
+pub returns : goal.returns
+unfolding attempt_value
+returns c =
+    let all = c.optional-object.ensures ▸ c.optional-object-2.ensures ▸ c.in_ok-object.ensures ▸
+    c.optional-object-3.ensures ▸ c.optional-object-4.ensures ▸ c.in_ok-object-2.ensures in
+    c.end.ensures.written _ _
+    (λ ok. rw (
+      ← c.end_at-ended.ensures,
+      ← c.retry_at-retry.ensures,
+      ← c.slot_at-slot.ensures,
+      ← c.instant_at-started.ensures,
+      ← c.status_at-status.ensures,
+    )
+    (all_written c.begin-object.ensures all ok))
