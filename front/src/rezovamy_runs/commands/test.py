@@ -18,7 +18,7 @@ from rezovamy_runs.bundles import bundle
 from rezovamy_runs.collecting import cargo_call
 from rezovamy_runs.collecting.collect import BuildFailed
 from rezovamy_runs.collecting.cargo_line import manifest_of
-from rezovamy_runs.command_line import input_stream, options_of, print_out, whole
+from rezovamy_runs.command_line import input_stream, options_of, print_out, say, whole
 from rezovamy_runs.commands import junit as junit_command
 from rezovamy_runs.commands import page as page_command
 from rezovamy_runs.commands import run_options
@@ -33,7 +33,7 @@ from rezovamy_runs.runner.process_run import ProcessRun, Recordable
 from rezovamy_runs.runner.progress import Progress
 from rezovamy_runs.runner.rerun_plan import Plan
 from rezovamy_runs.runner.session_builder import Session, SessionBuilder
-from rezovamy_runs.store import run_folder
+from rezovamy_runs.store import run_folder, whole_session
 from rezovamy_runs.streams.clock import Clock, arrival_clock, measured_clock
 from rezovamy_runs.streams.run_state import Console
 from rezovamy_runs.streams.texts import without_surrogates
@@ -132,7 +132,11 @@ def run(words: argparse.Namespace) -> int:
 def guarded_status(work: Callable[[], int]) -> int:
     """Do the work in a process of its own, so that no process is left; return its status."""
     status = guard.guarded(lambda: answer(work))
-    return status if status >= 0 else 128 - status
+    if status >= 0:
+        return status
+    ended = f"{recorder.signal_of(-status)} ended the run"
+    say(f"rezovamy-runs: {ended}: `rezovamy-runs list` has what was recorded of it")
+    return 128 - status
 
 
 Judge = Callable[[Recordable], int]
@@ -159,7 +163,7 @@ class Outputs:
 
     def keep(self, session: Session) -> int:
         """Record a session, print what came of it, and return the status of its tests."""
-        return self._keep(session.status, lambda: recorder.record(self.runs, session))
+        return self._keep(session.status, lambda: whole_session.record(self.runs, session))
 
     def run(self, process_run: ProcessRun, judge: Judge = status_of) -> int:
         """Run tests as processes, record the run, and return what `judge` says of it.
@@ -168,15 +172,10 @@ class Outputs:
         """
         self.prepare()
         try:
-            made = process_run.run()
+            made = process_run.run(self.runs)
         except BuildFailed as failed:
             return failed.status
-
-        def record() -> pathlib.Path:
-            with made.session() as stream:
-                return recorder.record_stream(self.runs, made.run_id, stream)
-
-        self._keep(made.status, record)
+        self._keep(made.status, made.record)
         return judge(made)
 
     def _keep(self, status: int, record: Callable[[], pathlib.Path]) -> int:

@@ -13,9 +13,11 @@ from collections.abc import Callable, Iterator
 
 from rezovamy_runs import formatting
 from rezovamy_runs.bundles import bundle
+from rezovamy_runs.command_line import say
 from rezovamy_runs.faults.fault import Fault
 from rezovamy_runs.model import Summary
 from rezovamy_runs.store import location, whole_file
+from rezovamy_runs.store.live_folder import LiveFolder, settle_all
 
 ENDING, ASIDE = ".bundle", ".aside"
 RUN_ID = re.compile(r"[0-9a-f]{8}(?:-[0-9a-f]{4}){3}-[0-9a-f]{12}")
@@ -51,12 +53,25 @@ class Store:
 
     def ids(self) -> list[str]:
         """Return the ids of the runs, in the order of their letters."""
+        return self.names(ENDING)
+
+    def names(self, ending: str) -> list[str]:
+        """Return the ids in the folder that have this ending, in the order of their letters."""
         if not self.folder.is_dir():
             return []
         names = (
-            name.removesuffix(ENDING) for name in os.listdir(self.folder) if name.endswith(ENDING)
+            name.removesuffix(ending) for name in os.listdir(self.folder) if name.endswith(ending)
         )
         return sorted(name for name in names if RUN_ID.fullmatch(name))
+
+    def all_ids(self) -> list[str]:
+        """Return the ids of all runs, also of those that go on, in the order of their letters."""
+        return sorted({*self.ids(), *(folder.run_id for folder in self.going_on)})
+
+    @functools.cached_property
+    def going_on(self) -> list[LiveFolder]:
+        """Return the folders of the runs that go on."""
+        return []
 
     def summaries(self, say: Callable[[str], object] | None = None) -> list[Summary]:
         """Return the runs, the latest first. An unreadable file is a fault, or a line for `say`."""
@@ -87,7 +102,7 @@ class Store:
             )
         found = self.matching(word)
         if len(found) == 1:
-            return self.path_of(found[0])
+            return self.path_of(self.ended(found[0]))
         if found:
             runs = f"{len(found)} runs, as of {found[0]} and {found[1]}"
             raise Fault(f"{word} is the beginning of {runs}: give more of it")
@@ -104,7 +119,14 @@ class Store:
 
     def matching(self, word: str) -> list[str]:
         """Return the ids that begin with a word, which may be in upper case."""
-        return [run_id for run_id in self.ids() if word and run_id.startswith(word.lower())]
+        return [run_id for run_id in self.all_ids() if word and run_id.startswith(word.lower())]
+
+    def ended(self, run_id: str) -> str:
+        """Return the id of a run, which must have ended."""
+        if self.path_of(run_id).exists():
+            return run_id
+        how_far = "`rezovamy-runs list` shows how far it is"
+        raise Fault(f"run {run_id} goes on: look again once it has ended; {how_far}")
 
     def last(self) -> pathlib.Path:
         """Return the bundle of the run that started last; one that can't be read isn't it."""
@@ -118,7 +140,7 @@ class Store:
 
     def prefixes(self) -> dict[str, str]:
         """Return for each id its shortest beginning of four letters or more that no other has."""
-        ids, found = self.ids(), {}
+        ids, found = self.all_ids(), {}
         for place, run_id in enumerate(ids):
             neighbours = ids[max(0, place - 1) : place] + ids[place + 1 : place + 2]
             shared = [len(os.path.commonprefix([run_id, other])) for other in neighbours]
@@ -215,6 +237,16 @@ class Here(Store):
     def folder(self) -> pathlib.Path:
         """Return the folder, which may be looked for in vain."""
         return location.runs_folder(self.manifest)
+
+    @functools.cached_property
+    def going_on(self) -> list[LiveFolder]:
+        """Pack the runs that were stopped, and return the folders of those that go on."""
+        return settle_all(self, lambda line: say(f"rezovamy-runs: {line}"))
+
+    def ids(self) -> list[str]:
+        """Return the ids of the runs, once those that were stopped are packed."""
+        assert self.going_on is not None
+        return super().ids()
 
     def is_somewhere(self) -> bool:
         """Tell whether it is known where the folder is."""
