@@ -9,6 +9,7 @@ import resource
 import shutil
 import signal
 import subprocess
+from xml.etree import ElementTree
 
 import pytest
 
@@ -79,6 +80,26 @@ def test_a_run_that_is_killed(endings: FrontEnd, victim: str) -> None:
     assert "one is not two\n" in shown
     assert "UNFINISHED ways::ends hangs\n" in shown
     assert shown.endswith("; the recording stopped before the run ended\n")
+
+
+def test_the_xml_of_a_run_that_was_killed(endings: FrontEnd) -> None:
+    """It has what ended, and errors for what ran and for what never started."""
+    words = (*ENDS, "passes", "hangs", "exits_with_0", "--test-threads=1")
+    with started(endings, *words) as run:
+        run.wait_for("--exact hangs")
+        run.kill("first")
+    done = endings.run("junit", "--to", "xml", "--fail")
+    assert (done.returncode, done.stdout) == (4, "xml/junit.xml\n")
+    cases = ElementTree.parse(endings.folder / "xml/junit.xml").iter("testcase")
+    broken_off = "the run was broken off (it was stopped before its end)"
+    never_started = f"the test was announced, and never started; {broken_off}"
+    assert {case.get("name"): case[0].get("message") for case in cases} == {
+        "exits_with_0": "the process exited with status 0 before the test ended",
+        "hangs": f"the test started, and no event says how it ended; {broken_off}",
+        "passes": never_started,
+        "passes_at_the_second_try": never_started,
+        "(run)": broken_off,
+    }
 
 
 @VICTIMS
