@@ -9,6 +9,7 @@ import resource
 import shutil
 import signal
 import subprocess
+import time
 from xml.etree import ElementTree
 
 import pytest
@@ -250,6 +251,22 @@ def test_a_folder_that_cannot_be_written(endings: FrontEnd) -> None:
         "rezovamy-runs: nothing can be written into /dev/null/runs: Not a directory; "
         "name another folder in REZOVAMY_RUNS\n"
     )
+
+
+def test_an_interrupt_at_the_end(endings: FrontEnd) -> None:
+    """It breaks off the wait for a slow disk. What has been recorded by then is kept."""
+    program = endings.environment["REZOVAMY"]
+    endings.use_program(f'[ "$1" = live ] && sleep 3; exec {program} "$@"')
+    with started(endings, *ENDS, "fails") as run:
+        assert run.process.stderr
+        while not run.process.stderr.readline().startswith("FAIL"):
+            pass
+        time.sleep(0.5)
+        run.process.send_signal(signal.SIGINT)
+        _, err = run.process.communicate()
+        assert (run.process.returncode, err.splitlines()[-1]) == (130, "rezovamy-runs: broken off")
+        stopped = [("incomplete", 1)]
+        wait_until(lambda: [told(one, "status", "failed") for one in listed(endings)] == stopped)
 
 
 def test_a_slow_disk_holds_up_no_test(endings: FrontEnd) -> None:

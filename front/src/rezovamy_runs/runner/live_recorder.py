@@ -67,11 +67,11 @@ class LiveRecorder:
             self._end_live()
             return self._folder.finish(line_of(head))
         except (Fault, OSError) as error:
+            if not self._folder.has_events():
+                self._folder.remove()
             said = error if isinstance(error, Fault) else f"{error.strerror or error}"
             raise Fault(f"{said}{self._kept()}") from error
         finally:
-            if not self._folder.has_events():
-                self._folder.remove()
             if self._lock:
                 self._lock.close()
 

@@ -20,6 +20,7 @@ from typing import IO, TYPE_CHECKING
 
 from rezovamy_runs import recorder
 from rezovamy_runs.bundles import bundle
+from rezovamy_runs.bundles.container import container
 from rezovamy_runs.faults.fault import Fault
 from rezovamy_runs.model import Status, Summary
 
@@ -28,7 +29,7 @@ if TYPE_CHECKING:
 
 ENDING = ".live"
 RECORDING, LOCK, END, BUNDLE = "run", "lock", "end", "bundle"
-LOG = "run.log.zst"
+MANIFEST, LOG = bundle.MANIFEST.decode(), bundle.LOG.decode()
 # A folder without a recording has no writer any more; none takes that long to begin.
 ABANDONED_AFTER = 24 * 3600
 
@@ -100,17 +101,24 @@ class LiveFolder:
             shutil.rmtree(path, ignore_errors=True)
 
     def summary(self) -> Summary | None:
-        """Return what there is of the run so far, None if it has just ended."""
-        with tempfile.TemporaryDirectory() as folder:
-            path = pathlib.Path(folder) / "so-far.bundle"
-            try:
-                recorder.run(["pack", str(self.recording), str(path)], input=b"")
-            except Fault:
-                if self.recording.exists():
-                    raise
-                return None
-            found = bundle.read_summary(path)
-            return dataclasses.replace(found, status=Status.RUNNING, bundle=self.recording)
+        """Return what there is of the run so far, None if it has just ended.
+
+        What tests print isn't read, so it takes no time however much that is.
+        """
+        try:
+            manifest, log = ((self.recording / name).read_bytes() for name in (MANIFEST, LOG))
+            size = sum(path.stat().st_size for path in self.recording.iterdir())
+        except FileNotFoundError:
+            return None
+        whole_lines = log[: log.rfind(b"\n") + 1]
+        with tempfile.NamedTemporaryFile() as file:
+            file.write(container([(bundle.MANIFEST, manifest), (bundle.LOG, whole_lines)]))
+            file.flush()
+            found = bundle.read_summary(file.name)
+        elapsed = max(found.elapsed, time.time() - found.started)
+        return dataclasses.replace(
+            found, status=Status.RUNNING, bundle=self.recording, size=size, elapsed=elapsed
+        )
 
 
 def settle_all(store: Store, say: Callable[[str], object]) -> list[LiveFolder]:
