@@ -63,6 +63,16 @@ def only_run(front_end: FrontEnd) -> dict[str, object]:
     return run
 
 
+def events_logged(front_end: FrontEnd) -> int:
+    """Return how many events of the run that goes on are in its log."""
+    return sum(log.read_text().count("\n") for log in front_end.runs.glob("*.live/run/run.log.zst"))
+
+
+def setup_that_waits(front_end: FrontEnd) -> str:
+    """Return a setup script that waits for the file `go` in the folder of the runs."""
+    return f"--setup=wait=while ! [ -e {front_end.runs}/go ]; do sleep 0.05; done"
+
+
 @VICTIMS
 def test_a_run_that_is_killed(endings: FrontEnd, victim: str) -> None:
     """It goes on in `list` until then, and is stopped afterwards, with what it had."""
@@ -190,9 +200,11 @@ def test_commands_that_look_at_once(endings: FrontEnd) -> None:
 
 def test_a_killed_recorder(endings: FrontEnd) -> None:
     """The tests go on. What was recorded until then is kept."""
-    setup = f"--setup=wait=while ! [ -e {endings.runs}/go ]; do sleep 0.05; done"
-    with started(endings, "test", setup, *ENDS[1:], "fails") as run:
-        os.kill(run.wait_for("rezovamy live"), signal.SIGKILL)
+    with started(endings, "test", setup_that_waits(endings), *ENDS[1:], "fails") as run:
+        live = run.wait_for("rezovamy live")
+        wait_until(lambda: events_logged(endings) == 2)
+        time.sleep(0.2)
+        os.kill(live, signal.SIGKILL)
         (endings.runs / "go").touch()
         out, err = run.process.communicate()
     assert (run.process.returncode, out) == (101, "")
@@ -254,10 +266,12 @@ def test_a_folder_that_cannot_be_written(endings: FrontEnd) -> None:
 
 
 def test_an_interrupt_at_the_end(endings: FrontEnd) -> None:
-    """It breaks off the wait for a slow disk. What has been recorded by then is kept."""
-    program = endings.environment["REZOVAMY"]
-    endings.use_program(f'[ "$1" = live ] && sleep 3; exec {program} "$@"')
-    with started(endings, *ENDS, "fails") as run:
+    """It breaks off the wait for a disk that stands still. What was recorded by then is kept."""
+    with started(endings, "test", setup_that_waits(endings), *ENDS[1:], "fails") as run:
+        live = run.wait_for("rezovamy live")
+        wait_until(lambda: events_logged(endings) == 2)
+        os.kill(live, signal.SIGSTOP)
+        (endings.runs / "go").touch()
         assert run.process.stderr
         while not run.process.stderr.readline().startswith("FAIL"):
             pass
@@ -265,8 +279,9 @@ def test_an_interrupt_at_the_end(endings: FrontEnd) -> None:
         run.process.send_signal(signal.SIGINT)
         _, err = run.process.communicate()
         assert (run.process.returncode, err.splitlines()[-1]) == (130, "rezovamy-runs: broken off")
-        stopped = [("incomplete", 1)]
-        wait_until(lambda: [told(one, "status", "failed") for one in listed(endings)] == stopped)
+        os.kill(live, signal.SIGCONT)
+        wait_until(lambda: not run.processes())
+    assert told(only_run(endings), "status", "failed") == ("incomplete", 0)
 
 
 def test_a_slow_disk_holds_up_no_test(endings: FrontEnd) -> None:
