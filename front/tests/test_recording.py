@@ -56,7 +56,7 @@ def test_lines_that_are_there(front_end: FrontEnd) -> None:
     assert f"{front_end.runs}/" in done.stdout
     (run,) = listed(front_end)
     assert (run["profile"], run["passed"], run["failed"], run["skipped"]) == ("ci", 5, 2, 1)
-    assert os.listdir(front_end.runs) == [f"{run['id']}.bundle"]
+    assert sorted(os.listdir(front_end.runs)) == [f"{run['id']}.bundle", f"{run['id']}.json"]
     trace = json.loads(front_end.output("trace", "--group-by", "slot"))
     assert trace["otherData"]["run_id"] == run["id"]
 

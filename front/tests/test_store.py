@@ -189,7 +189,7 @@ def folder(tmp_path: pathlib.Path, monkeypatch: pytest.MonkeyPatch) -> pathlib.P
     """The folder in which the process is, of which cargo knows nothing."""
     folder = tmp_path.resolve()
     monkeypatch.chdir(folder)
-    monkeypatch.setattr(location, "target_of_cargo", lambda manifest=None: None)
+    monkeypatch.setattr(location, "of_cargo", lambda manifest=None: None)
     monkeypatch.delenv("REZOVAMY_RUNS", raising=False)
     return folder
 
@@ -197,7 +197,7 @@ def folder(tmp_path: pathlib.Path, monkeypatch: pytest.MonkeyPatch) -> pathlib.P
 @pytest.mark.usefixtures("folder")
 def test_the_environment_says_it(monkeypatch: pytest.MonkeyPatch) -> None:
     monkeypatch.setenv("REZOVAMY_RUNS", "/some/where")
-    assert location.runs_folder() == pathlib.Path("/some/where")
+    assert run_folder.here().folder == pathlib.Path("/some/where")
 
 
 @pytest.mark.parametrize(
@@ -232,10 +232,10 @@ def test_without_cargo_it_is_that_of_the_workspace_above(
     (folder / "Cargo.toml").write_text('[workspace]\nmembers = ["member"]\n')
     (folder / "member/Cargo.toml").write_text("[package]\n")
     monkeypatch.chdir(folder / "member/src")
-    assert location.runs_folder() == folder / "target/rezovamy-runs"
+    assert run_folder.here().folder == folder / "target/rezovamy-runs"
     (folder / "Cargo.toml").write_text("[package]\n")
-    assert location.runs_folder() == folder / "member/target/rezovamy-runs"
-    named = location.runs_folder(str(folder / "Cargo.toml"))
+    assert run_folder.here().folder == folder / "member/target/rezovamy-runs"
+    named = run_folder.here(str(folder / "Cargo.toml")).folder
     assert named == folder / "target/rezovamy-runs"
 
 
@@ -257,7 +257,7 @@ def test_a_target_directory_that_is_made_is_marked_as_cargo_does(
 @pytest.mark.usefixtures("folder")
 def test_outside_of_workspaces_it_is_a_fault() -> None:
     with pytest.raises(Fault, match="REZOVAMY_RUNS"):
-        location.runs_folder()
+        run_folder.here().folder
 
 
 @pytest.mark.usefixtures("folder")

@@ -13,9 +13,11 @@ from collections.abc import Callable, Iterator
 
 from rezovamy_runs import formatting
 from rezovamy_runs.bundles import bundle
+from rezovamy_runs.command_line import say
 from rezovamy_runs.faults.fault import Fault
 from rezovamy_runs.model import Summary
-from rezovamy_runs.store import location, whole_file
+from rezovamy_runs.store import location, notes, whole_file
+from rezovamy_runs.store.notes import RunNotes, WrongNotes
 
 ENDING, ASIDE = ".bundle", ".aside"
 RUN_ID = re.compile(r"[0-9a-f]{8}(?:-[0-9a-f]{4}){3}-[0-9a-f]{12}")
@@ -48,6 +50,10 @@ class Store:
     def is_somewhere(self) -> bool:
         """Tell whether it is known where the folder is."""
         return True
+
+    def workspace_root(self) -> pathlib.Path | None:
+        """Return the folder of the workspace whose runs these are, None if it isn't known."""
+        return None
 
     def ids(self) -> list[str]:
         """Return the ids of the runs, in the order of their letters."""
@@ -168,10 +174,42 @@ class Store:
         with whole_file.becoming(target, aside):
             yield aside
 
+    @contextlib.contextmanager
+    def noting(self, run_id: str, known: RunNotes) -> Iterator[None]:
+        """Write what is known of a run that is recorded meanwhile; after a fault it goes.
+
+        So whoever finds a bundle finds its notes too. If they can't be written, that is said, and
+        the run is recorded nevertheless.
+        """
+        path = notes.path_beside(self.path_of(run_id))
+        try:
+            with self.writable():
+                notes.write(known, path)
+        except Fault as fault:
+            say(f"rezovamy-runs: the notes of the run aren't kept: {fault}")
+        try:
+            yield
+        except BaseException:
+            if not self.path_of(run_id).exists():
+                path.unlink(missing_ok=True)
+            raise
+
+    def notes(self, path: pathlib.Path) -> RunNotes | None:
+        """Return what is known of the run of a bundle, None if it has no notes.
+
+        Notes that can't be read are said, and count as none.
+        """
+        try:
+            return notes.read(notes.path_beside(path))
+        except WrongNotes as fault:
+            say(f"rezovamy-runs: {fault}")
+            return None
+
     def remove(self, run_id: str) -> None:
-        """Remove a run and its page; another one may have removed it before."""
-        self.path_of(run_id).unlink(missing_ok=True)
-        self.path_of(run_id).with_suffix(".html").unlink(missing_ok=True)
+        """Remove a run, its notes and its page; another one may have removed it before."""
+        path = self.path_of(run_id)
+        for file in (path, notes.path_beside(path), path.with_suffix(".html")):
+            file.unlink(missing_ok=True)
 
     def abandoned(self) -> Iterator[pathlib.Path]:
         """Find the files that a recording left that was killed."""
@@ -212,9 +250,18 @@ class Here(Store):
         self.manifest = manifest
 
     @functools.cached_property
+    def workspace(self) -> location.Workspace | None:
+        """Return the workspace, None if there is none."""
+        return location.workspace(self.manifest)
+
+    def workspace_root(self) -> pathlib.Path | None:
+        """Return the folder of the workspace, None if there is none."""
+        return self.workspace.root if self.workspace else None
+
+    @functools.cached_property
     def folder(self) -> pathlib.Path:
         """Return the folder, which may be looked for in vain."""
-        return location.runs_folder(self.manifest)
+        return location.named_folder() or location.runs_folder(self.workspace)
 
     def is_somewhere(self) -> bool:
         """Tell whether it is known where the folder is."""
