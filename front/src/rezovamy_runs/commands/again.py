@@ -9,7 +9,7 @@ from collections.abc import Iterable
 
 from rezovamy_runs import formatting
 from rezovamy_runs import recorder
-from rezovamy_runs.bundles import bundle
+from rezovamy_runs.bundles import bundle, bundle_file
 from rezovamy_runs.collecting.cargo_line import manifest_of
 from rezovamy_runs.command_line import add_run, options_of, say
 from rezovamy_runs.commands import note_options, run_options
@@ -115,7 +115,7 @@ def root_bundle(plan: Plan, before: Summary) -> pathlib.Path:
     root = plan.info.get("root-info")
     if not before.parent or not isinstance(root, dict):
         return before.bundle
-    return before.bundle.with_name(f"{root['run-id']}{run_folder.ENDING}")
+    return bundle_file.in_folder(before.bundle.parent, str(root["run-id"]))
 
 
 def never_started(path: pathlib.Path) -> list[str]:
