@@ -67,7 +67,7 @@ def names(folder: LiveFolder) -> list[str]:
     return sorted(os.listdir(folder.path.parent))
 
 
-BUNDLE, LIVE = f"{made.ID}.bundle", f"{made.ID}.live"
+BUNDLE, LIVE = f"{made.ID}.bundle.gz", f"{made.ID}.live"
 
 
 def test_a_run_that_was_stopped(folder: LiveFolder, store: Store) -> None:

@@ -14,7 +14,7 @@ from xml.etree import ElementTree
 
 import pytest
 
-from tests import EXAMPLES
+from tests import EXAMPLES, made
 from tests.front_end import FrontEnd
 from tests.stopped_runs import ENDS, LEFT_OUT, is_at, listed, started, told, wait_until
 
@@ -26,6 +26,7 @@ VICTIMS = pytest.mark.parametrize("victim", ["first", "worker", "group"])
 MOMENT = 1.0
 # `passes` and `passes_at_the_second_try`, `fails`, and `hangs` in one slot each.
 THREE_AND_HANGS = (*ENDS, "passes", "hangs", "fails", "--test-threads=4")
+WHOLE = [".bundle.gz", ".json"]
 SLOW_BUILD = 'fn main() { std::process::Command::new("sleep").arg("600").status().unwrap(); }'
 
 
@@ -53,8 +54,8 @@ def endings(workspace: pathlib.Path, program: pathlib.Path, tmp_path: pathlib.Pa
 
 
 def endings_of(front_end: FrontEnd) -> list[str]:
-    """Return the endings of the names in the folder of runs."""
-    return sorted(path.suffix for path in front_end.runs.iterdir())
+    """Return what stands behind the ids in the folder of runs."""
+    return sorted(path.name[len(made.ID) :] for path in front_end.runs.iterdir())
 
 
 def only_run(front_end: FrontEnd) -> dict[str, object]:
@@ -78,12 +79,12 @@ def test_a_run_that_is_killed(endings: FrontEnd, victim: str) -> None:
     """It goes on in `list` until then, and is stopped afterwards, with what it had."""
     with started(endings, *THREE_AND_HANGS) as run:
         wait_until(lambda: is_at(endings, passed=2, failed=1, unended=1))
-        assert endings_of(endings) == [".live"]
+        assert endings_of(endings) == [".json", ".live"]
         run.kill(victim)
         wait_until(lambda: not run.processes(), MOMENT)
     table = endings.output("list")
     assert " stopped " in table
-    assert endings_of(endings) == [".bundle"]
+    assert endings_of(endings) == WHOLE
     counts = told(only_run(endings), "status", "passed", "failed", "unended")
     assert counts == ("incomplete", 2, 1, 1)
     shown = endings.output("show", "--all")
@@ -152,7 +153,7 @@ def test_a_run_within_a_time(endings: FrontEnd) -> None:
         2,
         2,
     )
-    assert endings_of(endings) == [".bundle"]
+    assert endings_of(endings) == WHOLE
 
 
 def test_a_run_that_goes_on_is_left_alone(endings: FrontEnd) -> None:
@@ -195,7 +196,7 @@ def test_commands_that_look_at_once(endings: FrontEnd) -> None:
         out, err = one.communicate()
         assert err == b""
         assert [found["status"] for found in json.loads(out)] == ["incomplete"]
-    assert endings_of(endings) == [".bundle"]
+    assert endings_of(endings) == WHOLE
 
 
 def test_a_killed_recorder(endings: FrontEnd) -> None:
@@ -248,10 +249,10 @@ def test_a_bundle_without_room(endings: FrontEnd) -> None:
         "what `ulimit -a` allows, and try it again; all of 4 events are kept, and "
         "`rezovamy-runs list` records these"
     )
-    assert endings_of(endings) == [".live"]
+    assert endings_of(endings) == [".json", ".live"]
     endings.environment["REZOVAMY"] = str(program)
     assert told(only_run(endings), "status", "failed", "exit-code") == ("completed", 1, 101)
-    assert endings_of(endings) == [".bundle"]
+    assert endings_of(endings) == WHOLE
 
 
 def test_a_folder_that_cannot_be_written(endings: FrontEnd) -> None:

@@ -79,7 +79,7 @@ def bundle_documents(path: pathlib.Path) -> list[Document]:
     A run that was stopped is reported as if it had ended then.
     """
     try:
-        with bundle.opened(path) as file:
+        with bundle.plain(path) as file:
             data = file.read()
         ended = stopped_run.with_end(data)
         if ended is None:

@@ -68,7 +68,7 @@ class LiveRecorder:
             return self._folder.finish(line_of(head))
         except (Fault, OSError) as error:
             if not self._folder.has_events():
-                self._folder.remove()
+                self._folder.discard()
             said = error if isinstance(error, Fault) else f"{error.strerror or error}"
             raise Fault(f"{said}{self._kept()}") from error
         finally:

@@ -6,9 +6,9 @@ import dataclasses
 import os
 import pathlib
 import uuid
-from collections.abc import Sequence
+from collections.abc import Callable, Sequence
 
-from rezovamy_runs.collecting import cargo_call, test_words
+from rezovamy_runs.collecting import cargo_call, sharding, test_words
 from rezovamy_runs.collecting.collect import Collector, Listed, jobs_of
 from rezovamy_runs.collecting.records import own_environment
 from rezovamy_runs.faults.fault import Fault
@@ -23,6 +23,7 @@ from rezovamy_runs.runner.process_session import ProcessSession, RunName
 from rezovamy_runs.runner.rerun_plan import Plan
 from rezovamy_runs.runner.session_builder import members_of_rerun
 from rezovamy_runs.store.live_folder import LiveFolder
+from rezovamy_runs.store.notes import Shard
 from rezovamy_runs.store.run_folder import Store
 from rezovamy_runs.streams.session_json import HEAD
 from rezovamy_runs.streams.session_writer import NEXTEST_VERSION, Suites, length, moment
@@ -40,6 +41,8 @@ class RunOptions:
     test_threads: int | None = None
     fail_fast: bool = False
     scripts: tuple[tuple[str, str], ...] = ()
+    # The shard whose tests alone run, None if all do.
+    shard: Shard | None = None
 
     def settings(self, words: Sequence[str]) -> Settings:
         """Return the settings of a run with these words of `cargo test`."""
@@ -67,6 +70,10 @@ def slots_of(words: Sequence[str]) -> int:
         if number and number.isascii() and number.isdigit() and int(number):
             return int(number)
     return len(os.sched_getaffinity(0))
+
+
+# Notes a run by its id, its tests by binary, and how many seconds they were built.
+Note = Callable[[str, Suites, float], None]
 
 
 @dataclasses.dataclass(frozen=True)
@@ -97,16 +104,22 @@ class ProcessRun:
         self._calls, self._options, self._plan = calls, options, plan
         self._name = RunName(str(uuid.uuid4()), profile, cli_args)
 
-    def run(self, store: Store) -> Recordable:
-        """Collect the tests, run them, and record what happens; the recording is to be finished."""
+    def run(self, store: Store, note: Note) -> Recordable:
+        """Collect the tests, run them, and record what happens; the recording is to be finished.
+
+        What is known of the run before the first test is noted.
+        """
         with Loop() as loop:
             collector = Collector(loop, asks_for_all=self._plan is not None)
-            listed = [one for call in self._calls for one in collector.collect(call)]
+            collected = [one for call in self._calls for one in collector.collect(call)]
+            shard = self._options.shard
+            listed = [sharding.of_shard(one, shard) for one in collected] if shard else collected
             if not listed:
                 nothing = "no test ran, so nothing is recorded"
                 raise Fault(f"{nothing}: see what stands above, and what was asked for", 1)
             if self._plan:
                 forget_tests(self._plan, listed)
+            note(self._name.run_id, suites_of(listed), collector.build_seconds)
             return self._run_listed(loop, store, listed)
 
     def _run_listed(self, loop: Loop, store: Store, listed: Sequence[Listed]) -> Recordable:
