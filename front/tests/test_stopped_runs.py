@@ -22,11 +22,20 @@ pytestmark = [pytest.mark.cargo, pytest.mark.program]
 
 BUILT = shutil.ignore_patterns("target", "Cargo.lock")
 VICTIMS = pytest.mark.parametrize("victim", ["first", "worker", "group"])
-# How long the processes of a run that was killed have to go.
-MOMENT = 1.0
+# How long the processes of a run that was killed have to go, also on a machine that is busy.
+MOMENT = 3.0
 # `passes` and `passes_at_the_second_try`, `fails`, and `hangs` in one slot each.
 THREE_AND_HANGS = (*ENDS, "passes", "hangs", "fails", "--test-threads=4")
 WHOLE = [".bundle.gz", ".json"]
+# The folder of runs on a small disk, of which a copy is left.
+NO_SMALL_DISK = 77
+ON_A_SMALL_DISK = """
+mount -t tmpfs -o size=20k none "$REZOVAMY_RUNS" || exit 77
+"$@"
+status=$?
+cp -r "$REZOVAMY_RUNS" "$REZOVAMY_RUNS-left"
+exit $status
+"""
 SLOW_BUILD = 'fn main() { std::process::Command::new("sleep").arg("600").status().unwrap(); }'
 
 
@@ -218,14 +227,12 @@ def test_a_killed_recorder(endings: FrontEnd) -> None:
     assert told(only_run(endings), "status", "passed", "failed") == ("incomplete", 0, 0)
 
 
-def test_a_disk_that_is_full(endings: FrontEnd) -> None:
+def test_a_limit_on_the_length_of_files(endings: FrontEnd) -> None:
     """The failures are told, and what there was room for is kept."""
     limit = (8 << 10, resource.RLIM_INFINITY)
     done = endings.run(
         *ENDS,
-        "fails",
-        "exits",
-        "prints",
+        *("fails", "exits", "prints"),
         before=lambda: resource.setrlimit(resource.RLIMIT_FSIZE, limit),
     )
     assert done.returncode == 101
@@ -233,6 +240,32 @@ def test_a_disk_that_is_full(endings: FrontEnd) -> None:
     assert done.stderr.splitlines()[-1].startswith(
         "rezovamy-runs: the tests failed, and besides: rezovamy live was ended by SIGXFSZ: "
     )
+    assert only_run(endings)["status"] == "incomplete"
+
+
+def test_a_full_disk(endings: FrontEnd) -> None:
+    """It is the same on a file system with room for five pages."""
+    endings.runs.mkdir()
+    words = [
+        "unshare",
+        "-rm",
+        "sh",
+        "-c",
+        ON_A_SMALL_DISK,
+        "sh",
+        *endings.words(*ENDS, "fails", "e"),
+    ]
+    done = subprocess.run(
+        words, cwd=endings.folder, env=endings.environment, capture_output=True, text=True
+    )
+    if done.returncode == NO_SMALL_DISK:
+        pytest.skip("no small file system can be made here")
+    assert done.returncode == 101
+    assert "one is not two\n" in done.stderr
+    last = done.stderr.splitlines()[-1]
+    assert last.startswith("rezovamy-runs: the tests failed, and besides: rezovamy live: ")
+    assert last.endswith(" events are kept, and `rezovamy-runs list` records these")
+    endings.environment["REZOVAMY_RUNS"] += "-left"
     assert only_run(endings)["status"] == "incomplete"
 
 

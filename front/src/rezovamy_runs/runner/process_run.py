@@ -133,8 +133,9 @@ class ProcessRun:
         with LiveRecorder(loop, LiveFolder(store, self._name.run_id), head) as recording:
             recording.write(session.first_events())
             for told in Run(loop, jobs, settings, scripts):
-                progress.show(told)
+                # What was shown is recorded, unless it is lost within the next moment.
                 recording.write(session.events(told))
+                progress.show(told)
         return Recordable(session.status, suites, recording, {**head, **end_of(session)})
 
     def _head(self, session: ProcessSession, suites: Suites) -> JsonObject:
