@@ -6,9 +6,7 @@ import json
 import os
 import pathlib
 import shutil
-import signal
 import subprocess
-import time
 
 import pytest
 
@@ -80,7 +78,7 @@ def endings(workspace: pathlib.Path, program: pathlib.Path, tmp_path: pathlib.Pa
 def last_run(front_end: FrontEnd) -> Run:
     """Return the run that was recorded last."""
     runs = json.loads(front_end.output("list", "--json"))
-    return bundle.read_run(front_end.path_of(runs[0]["id"]))
+    return bundle.read_run(runs[0]["path"])
 
 
 def names_of(run: Run) -> dict[str, list[str]]:
@@ -300,35 +298,3 @@ def test_failures_are_told_where_nothing_can_be_recorded(endings: FrontEnd) -> N
     assert done.returncode == 101
     assert "one is not two" in done.stderr
     assert "the tests failed, and besides: " in done.stderr
-
-
-def test_a_killed_front_end_leaves_no_process(endings: FrontEnd) -> None:
-    """It is gone, and so is the test that ran."""
-    words = endings.words("test", "--", "--test", "ends", "-p", "ways", "--", "hangs")
-    with subprocess.Popen(
-        words, cwd=endings.folder, env=endings.environment, stderr=subprocess.DEVNULL
-    ) as process:
-        wait_until(lambda: processes("hangs") == 1)
-        process.send_signal(signal.SIGKILL)
-    wait_until(lambda: processes("hangs") == 0)
-
-
-def processes(test: str) -> int:
-    """Count the processes that run this test."""
-    found = 0
-    for path in pathlib.Path("/proc").glob("[0-9]*/cmdline"):
-        try:
-            words = path.read_bytes().split(b"\0")
-        except OSError:
-            continue
-        found += b"--exact" in words and test.encode() in words
-    return found
-
-
-def wait_until(is_so: object) -> None:
-    """Wait until something is so."""
-    assert callable(is_so)
-    until = time.monotonic() + 60
-    while not is_so():
-        assert time.monotonic() < until
-        time.sleep(0.02)

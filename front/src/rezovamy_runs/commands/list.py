@@ -8,9 +8,10 @@ from collections.abc import Mapping
 
 from rezovamy_runs import formatting
 from rezovamy_runs.command_line import options_of, print_lines, print_out, say
-from rezovamy_runs.model import Summary
+from rezovamy_runs.model import Status, Summary
 from rezovamy_runs.report import tables
 from rezovamy_runs.store import run_folder
+from rezovamy_runs.store.live_folder import with_running
 
 SUMMARY = "list the recorded runs, the latest first"
 TAKES_REST = False
@@ -33,7 +34,8 @@ def run(words: argparse.Namespace) -> int:
     """Print a line for each run."""
     options = options_of(Options, words)
     runs = run_folder.here()
-    found, prefixes = runs.summaries(lambda line: say(f"rezovamy-runs: {line}")), runs.prefixes()
+    ended = runs.summaries(lambda line: say(f"rezovamy-runs: {line}"))
+    found, prefixes = with_running(ended, runs.going_on), runs.prefixes()
     if options.json:
         print_out(tables.as_json([value_of(run, prefixes) for run in found]))
     elif found:
@@ -56,10 +58,16 @@ def row_of(run: Summary, prefixes: Mapping[str, str]) -> dict[str, object]:
         "flaky": counts.flaky,
         "skipped": counts.skipped,
         "unended": counts.unseen,
-        "status": run.status if run.exit_code is None else f"{run.status} {run.exit_code}",
+        "status": status_of(run),
         "took": formatting.duration(run.elapsed),
         "size": formatting.size(run.size),
     }
+
+
+def status_of(run: Summary) -> str:
+    """Return in words how a run ended."""
+    word = "stopped" if run.status is Status.INCOMPLETE else run.status
+    return word if run.exit_code is None else f"{word} {run.exit_code}"
 
 
 def value_of(run: Summary, prefixes: Mapping[str, str]) -> dict[str, object]:
