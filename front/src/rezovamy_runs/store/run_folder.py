@@ -7,6 +7,7 @@ import errno
 import functools
 import os
 import pathlib
+import shlex
 import time
 from collections.abc import Callable, Iterator
 
@@ -20,12 +21,9 @@ from rezovamy_runs.store.live_folder import RUN_ID, LiveFolder, settle_all
 from rezovamy_runs.store.notes import RunNotes, WrongNotes
 
 ASIDE, PAGE = ".aside", ".html"
-# What marks a folder as one of files that can be made anew.
-TAG_FILE = "CACHEDIR.TAG"
-TAG = (
-    "Signature: 8a477f597d28d172789f06886806bc55\n"
-    "# The target directory of cargo, which can be made anew.\n"
-)
+JUNIT = "rezovamy-junit"
+# A file in the folder once the runs in the target directory were named.
+TOLD = ".runs-in-target-told"
 # A file that was written aside and has no writer any more; no recording takes that long.
 ABANDONED_AFTER = 24 * 3600
 SHORTEST_PREFIX = 4
@@ -53,6 +51,15 @@ class Store:
     def workspace_root(self) -> pathlib.Path | None:
         """Return the folder of the workspace whose runs these are, None if it isn't known."""
         return None
+
+    def junit_folder(self) -> pathlib.Path:
+        """Return the folder for JUnit XML if none is named: beside that of the runs."""
+        # In `.` and `..` no word names the folder, so that nothing stands before it.
+        folder = self.folder.resolve() if self.folder.name in ("", "..") else self.folder
+        return folder.parent / JUNIT
+
+    def prepare_junit(self) -> None:
+        """Make what the folder for JUnit XML is in, if that needs more than to be made."""
 
     def ids(self) -> list[str]:
         """Return the ids of the runs, in the order of their letters."""
@@ -206,7 +213,7 @@ class Store:
             compressed.unlink(missing_ok=True)
 
     @contextlib.contextmanager
-    def noting(self, run_id: str, known: RunNotes) -> Iterator[None]:
+    def noting(self, run_id: str, known: RunNotes | None) -> Iterator[None]:
         """Write what is known of a run that is recorded meanwhile; after a fault it goes.
 
         So whoever finds a bundle finds its notes too. If they can't be written, that is said, and
@@ -220,9 +227,12 @@ class Store:
                 self.remove(run_id)
             raise
 
-    def note(self, run_id: str, known: RunNotes) -> None:
-        """Write what is known of a run. If that can't be written, it is said."""
+    def note(self, run_id: str, known: RunNotes | None) -> None:
+        """Write what is known of a run, if anything is. If that can't be written, it is said."""
+        if known is None:
+            return
         try:
+            self.prepare()
             with self.writable():
                 notes.write(known, notes.path_beside(self.path_of(run_id)))
         except Fault as fault:
@@ -301,11 +311,6 @@ class Here(Store):
         """Pack the runs that were stopped, and return the folders of those that go on."""
         return settle_all(self, lambda line: say(f"rezovamy-runs: {line}"))
 
-    def ids(self) -> list[str]:
-        """Return the ids of the runs, once those that were stopped are packed."""
-        assert self.going_on is not None
-        return super().ids()
-
     def is_somewhere(self) -> bool:
         """Tell whether it is known where the folder is."""
         try:
@@ -313,18 +318,39 @@ class Here(Store):
         except Fault:
             return False
 
-    def prepare(self) -> None:
-        """Make the folder.
+    def ids(self) -> list[str]:
+        """Return the ids of the runs, once those that were stopped are packed.
 
-        A target directory that is made with it is marked as cargo marks its own: no backup has it
-        then.
+        At the first time, name those in the target directory.
         """
-        target = self.folder.parent
-        is_cargos = location.named_folder() is None and not target.exists()
-        super().prepare()
-        if is_cargos:
-            with self.writable():
-                (target / TAG_FILE).write_text(TAG)
+        if location.named_folder() is None and self.workspace:
+            self._tell_of_older(self.workspace.target / location.OLDER)
+        assert self.going_on is not None
+        return super().ids()
+
+    def _tell_of_older(self, older: pathlib.Path) -> None:
+        """Say once that runs are where they were kept before, and how they are taken over."""
+        told, count = self.folder / TOLD, len(Store(older).ids())
+        if not count or told.exists():
+            return
+        verb, them = ("is", "it") if count == 1 else ("are", "them")
+        found = f"{formatting.count(count, 'run')} of an earlier version {verb}"
+        take = f"`rezovamy-runs import {shlex.quote(str(older))}` takes {them} over"
+        say(f"rezovamy-runs: {found} in the target directory: {take}")
+        with contextlib.suppress(OSError):
+            self.folder.mkdir(parents=True, exist_ok=True)
+            told.touch()
+
+    def junit_folder(self) -> pathlib.Path:
+        """Return the folder for JUnit XML: in the target directory, or beside a named folder."""
+        if location.named_folder() is not None or self.workspace is None:
+            return super().junit_folder()
+        return self.workspace.target / JUNIT
+
+    def prepare_junit(self) -> None:
+        """Make what the folder for JUnit XML is in, if that is the target directory."""
+        if location.named_folder() is None and self.workspace is not None:
+            location.make_target(self.workspace.target)
 
 
 def here(manifest: str | None = None) -> Store:
