@@ -69,8 +69,14 @@ class Folder:
         failed = marks.count("F")
         events.append(made.run_finished(begin + 1, 1))
         ended = made.completed(len(marks) - failed, failed, 101 if failed else 0)
-        more = {} if parent is None else {"parent_run_id": id_of(parent)}
-        data = made.bundle(*events, ended=ended, at=begin, run_id=id_of(number), **more)
+        run_id = id_of(number)
+        data = (
+            made.bundle(*events, ended=ended, at=begin, run_id=run_id)
+            if parent is None
+            else made.bundle(
+                *events, ended=ended, at=begin, run_id=run_id, parent_run_id=id_of(parent)
+            )
+        )
         self.path.mkdir(parents=True, exist_ok=True)
         bundle = self.path / f"{id_of(number)}.bundle"
         bundle.write_bytes(data)

@@ -117,7 +117,7 @@ def read_by_processes(wanted: list[tuple[pathlib.Path, str]]) -> Iterator[Read |
     """Read bundles in several processes, in the order in which they stand here."""
     count = min(MOST_PROCESSES, len(os.sched_getaffinity(0)))
     context = multiprocessing.get_context("fork")
-    with concurrent.futures.ProcessPoolExecutor(count, context, end_with_parent) as pool:
+    with concurrent.futures.ProcessPoolExecutor(count, context, end_with, (os.getpid(),)) as pool:
         waiting: list[concurrent.futures.Future[Read | None]] = []
         try:
             for one in wanted:
@@ -131,7 +131,9 @@ def read_by_processes(wanted: list[tuple[pathlib.Path, str]]) -> Iterator[Read |
                 left.cancel()
 
 
-def end_with_parent() -> None:
+def end_with(parent: int) -> None:
     """Let a process that reads end when the one that asked dies; a key ends that one alone."""
     signal.signal(signal.SIGINT, signal.SIG_IGN)
     ask_for_signal_at_death_of_parent(signal.SIGKILL)
+    if os.getppid() != parent:
+        os.kill(os.getpid(), signal.SIGKILL)
