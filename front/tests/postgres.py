@@ -20,7 +20,7 @@ def programs() -> pathlib.Path | None:
     """Return the folder of the server's programs, None where there is none."""
     installed = sorted(pathlib.Path("/usr/lib/postgresql").glob("*/bin/pg_isready"))
     on_path = shutil.which("pg_isready")
-    found = [*([on_path] if on_path else []), *installed]
+    found: list[str | pathlib.Path] = [*([on_path] if on_path else []), *installed]
     places = [pathlib.Path(one).resolve().parent for one in found]
     return next((place for place in reversed(places) if (place / "initdb").exists()), None)
 

@@ -122,7 +122,7 @@ def test_a_run_and_its_tests(database: Database, folder: Folder) -> None:
         alpha(3): Outcome(Verdict.SKIP, 0.0, 1, None),
         alpha(4): Outcome(Verdict.UNFINISHED, 0.0, 1, None),
     }
-    one = queries.outcomes_told(database, [run], names, key_of_test(alpha(1)))
+    one = queries.outcomes_of_test(database, [run], key_of_test(alpha(1)), names)
     assert [told.outcome for told in one] == [Outcome(FAIL, 1.5, 1, "exit code 101")]
     assert queries.count_tests(database, run) == 4
 
@@ -228,7 +228,8 @@ def test_tallies(database: Database, folder: Folder) -> None:
         (5, -4): (1, 0, 0),
         (5, -5): (1, 0, 0),
     }
-    found = queries.tallies(database, runs)
+    names = queries.test_names(database)
+    found = queries.tallies(database, runs, names)
     assert {tally for tally in found} == {
         Tally(alpha(number), code, *counts) for (number, code), counts in expected.items()
     }
@@ -240,10 +241,10 @@ def test_tallies(database: Database, folder: Folder) -> None:
         "t4": "OVER_COMMITS",
         "t5": "OVER_COMMITS",
     }
-    every = {tally.test for tally in queries.tallies(database, runs, every=True)}
+    every = {tally.test for tally in queries.tallies(database, runs, names, every=True)}
     assert every == {alpha(number) for number in range(6)}
-    assert queries.tallies(database, runs[2:3]) == [Tally(alpha(2), 0, 0, 0, 1)]
-    assert queries.tallies(database, []) == []
+    assert queries.tallies(database, runs[2:3], names) == [Tally(alpha(2), 0, 0, 0, 1)]
+    assert queries.tallies(database, [], names) == []
 
 
 def test_what_failed_and_passed_again_is_flaky(database: Database, folder: Folder) -> None:
@@ -252,11 +253,12 @@ def test_what_failed_and_passed_again_is_flaky(database: Database, folder: Folde
     again = RunNotes(commit="c", part=Part.AGAIN)
     folder.add(2, "-.F", again, parent=1)
     runs = runs_of(database, folder)
-    assert sorted(queries.tallies(database, runs), key=lambda tally: tally.test) == [
+    names = queries.test_names(database)
+    assert sorted(queries.tallies(database, runs, names), key=lambda tally: tally.test) == [
         Tally(alpha(1), 0, 0, 1, 0),
         Tally(alpha(2), 0, 0, 0, 1),
     ]
-    told = queries.outcomes_told(database, runs, queries.test_names(database))
+    told = queries.outcomes_told(database, runs, names)
     (found,) = joining.outcomes_by_run(runs, told)
     assert {key.test: one.verdict.value for key, one in found.items()} == {
         "t0": "pass",
@@ -270,7 +272,8 @@ def test_shards_are_one_run(database: Database, folder: Folder) -> None:
         folder.add(number, marks, RunNotes(commit="c", group="g", shard=Shard(number, 2)))
     (run,) = runs_of(database, folder)
     assert (run.is_whole, queries.count_tests(database, run)) == (True, 4)
-    assert {tally.test for tally in queries.tallies(database, [run])} == {alpha(1), alpha(3)}
+    tallies = queries.tallies(database, [run], queries.test_names(database))
+    assert {tally.test for tally in tallies} == {alpha(1), alpha(3)}
 
 
 # Versions.

@@ -5,7 +5,7 @@ from __future__ import annotations
 import pytest
 
 from rezovamy_runs import model
-from rezovamy_runs.history import durations, flakiness, joining, queries, timelines
+from rezovamy_runs.history import durations, flakiness, joining, timelines
 from rezovamy_runs.history.durations import Slow, Slowed
 from rezovamy_runs.history.flakiness import Kind, Record, Tally
 from rezovamy_runs.history.joining import JoinedRun, Told
@@ -137,14 +137,7 @@ def test_equal_commits_have_equal_numbers_and_unknown_ones_none() -> None:
     runs = alone(
         row(1, commit_id="a"), row(2, commit_id="b"), row(3), row(4, commit_id="a", dirty=1)
     ) + [JoinedRun((row(5, commit_id="a"), row(6, commit_id="a")))]
-    assert [(place, code) for _, place, code in queries.with_codes(runs)] == [
-        (0, 0),
-        (1, 1),
-        (2, -3),
-        (3, -4),
-        (4, 0),
-        (4, 0),
-    ]
+    assert flakiness.codes(runs) == [0, 1, -3, -4, 0]
 
 
 # Flakiness.

@@ -46,7 +46,8 @@ def run(words: argparse.Namespace) -> int:
     ) -> tuple[list[JoinedRun], list[Record], int]:
         """Ask for the tallies of the chosen runs."""
         chosen = joining.latest(found, words.runs, words.branch)
-        records = flakiness.records(queries.tallies(database, chosen, words.all))
+        names = queries.test_names(database)
+        records = flakiness.records(queries.tallies(database, chosen, names, words.all))
         return chosen, records, queries.count_tests(database, chosen[-1]) if chosen else 0
 
     chosen, records, tests = history_options.ask(runs, question)

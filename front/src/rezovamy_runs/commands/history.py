@@ -61,7 +61,7 @@ def timelines_of(database: Database, runs: list[JoinedRun], word: str) -> list[T
         )
     found = []
     for test in tests:
-        told = queries.outcomes_told(database, runs, names, key_of_test(test))
+        told = queries.outcomes_of_test(database, runs, key_of_test(test), names)
         found.append(timelines.timeline(test, runs, joining.outcomes_by_run(runs, told)))
     return found
 

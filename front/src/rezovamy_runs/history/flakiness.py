@@ -4,9 +4,13 @@ from __future__ import annotations
 
 import dataclasses
 import enum
-from collections.abc import Iterable
+from collections.abc import Collection, Iterable, Mapping, Sequence
 
+from rezovamy_runs.history.joining import JoinedRun
 from rezovamy_runs.model import TestName
+
+# A test, a run and how it ended there, by their keys and as the tables have it. They are many.
+Ended = tuple[int, int, str]
 
 
 class Kind(enum.IntEnum):
@@ -87,3 +91,41 @@ def records(tallies: Iterable[Tally]) -> list[Record]:
         found.values(),
         key=lambda one: (one.kind, -one.doubtful / one.runs, -one.doubtful, one.test),
     )
+
+
+def codes(runs: Sequence[JoinedRun]) -> list[int]:
+    """Return for each run a number for its sources.
+
+    Equal numbers are equal sources. Where these aren't known, they are those of no other run.
+    """
+    numbers: dict[str, int] = {}
+    return [
+        -1 - place if run.commit is None else numbers.setdefault(run.commit, len(numbers))
+        for place, run in enumerate(runs)
+    ]
+
+
+def tallies(
+    runs: Sequence[JoinedRun], ended: Iterable[Ended], names: Mapping[int, TestName]
+) -> list[Tally]:
+    """Count how often tests passed and failed, by what sources ran; other runs don't count."""
+    code = codes(runs)
+    places = {row.run: place for place, run in enumerate(runs) for row in run.rows}
+    passed, failed = set[tuple[int, int]](), set[tuple[int, int]]()
+    for test, run, verdict in ended:
+        place = places.get(run)
+        if place is not None:
+            if verdict != "fail":
+                passed.add((test, place))
+            if verdict != "pass":
+                failed.add((test, place))
+    counts: dict[tuple[int, int], list[int]] = {}
+    for column, ends in enumerate((passed - failed, passed & failed, failed - passed)):
+        for test, place in ends:
+            counts.setdefault((test, code[place]), [0, 0, 0])[column] += 1
+    return [Tally(names[test], number, *of_test) for (test, number), of_test in counts.items()]
+
+
+def doubtful(tallies: Iterable[Tally]) -> Collection[TestName]:
+    """Return the tests that failed, at least at one attempt."""
+    return {tally.test for tally in tallies if tally.flaky or tally.failed}
