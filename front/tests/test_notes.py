@@ -9,6 +9,7 @@ import subprocess
 import pytest
 
 from rezovamy_runs.json_values import WrongMember
+from rezovamy_runs.runner import run_facts
 from rezovamy_runs.store import ci_variables, git_state, notes
 from rezovamy_runs.store.ci_variables import CiRun
 from rezovamy_runs.store.git_state import GitState
@@ -342,25 +343,30 @@ def test_git_says_commit_branch_and_changes(status: str, state: GitState) -> Non
 
 
 def test_git_is_asked_about_a_tree(tmp_path: pathlib.Path) -> None:
-    assert git_state.ask(tmp_path) == GitState()
+    assert asked_of_git(tmp_path) == GitState()
     git(tmp_path, "init", "--initial-branch=main")
-    assert git_state.ask(tmp_path) == GitState(None, "main", False)
+    assert asked_of_git(tmp_path) == GitState(None, "main", False)
     (tmp_path / "a").write_text("1")
     git(tmp_path, "add", "a")
     git(tmp_path, "commit", "--message", "one")
     commit = git(tmp_path, "rev-parse", "HEAD").strip()
     (tmp_path / "untracked").write_text("1")
-    assert git_state.ask(tmp_path) == GitState(commit, "main", False)
+    assert asked_of_git(tmp_path) == GitState(commit, "main", False)
     (tmp_path / "a").write_text("2")
     git(tmp_path, "checkout", "--detach")
-    assert git_state.ask(tmp_path) == GitState(commit, None, True)
+    assert asked_of_git(tmp_path) == GitState(commit, None, True)
 
 
 def test_nothing_is_known_without_git(
     tmp_path: pathlib.Path, monkeypatch: pytest.MonkeyPatch
 ) -> None:
     monkeypatch.setenv("PATH", str(tmp_path))
-    assert git_state.ask(tmp_path) == GitState()
+    assert asked_of_git(tmp_path) == GitState()
+
+
+def asked_of_git(folder: pathlib.Path) -> GitState:
+    """Return what git says of a folder."""
+    return git_state.state_of(run_facts.answers(git_state.COMMAND, folder=folder)[0])
 
 
 def git(folder: pathlib.Path, *words: str) -> str:

@@ -2,12 +2,14 @@
 
 from __future__ import annotations
 
+import errno
 import os
 import pathlib
 import time
 
 import pytest
 
+from rezovamy_runs.bundles import bundle_file
 from rezovamy_runs.commands import junit as junit_command
 from rezovamy_runs.faults.fault import Fault
 from rezovamy_runs.store import location, run_folder
@@ -41,6 +43,11 @@ def add(store: Store, run_id: str, at: int = 0) -> None:
         aside.write_bytes(made.bundle(made.run_started(at), at=at, run_id=run_id))
 
 
+def content(store: Store, run_id: str) -> bytes:
+    """Return the bytes of a run's bundle."""
+    return bundle_file.plain_bytes(store.path_of(run_id).read_bytes())
+
+
 def names(store: Store) -> list[str]:
     """Return what stands in the folder."""
     return sorted(os.listdir(store.folder))
@@ -54,7 +61,7 @@ def test_a_run_is_written_aside_and_renamed(store: Store) -> None:
         aside.write_bytes(b"one")
         assert store.ids() == []
         assert aside.name.startswith(".")
-    assert names(store) == [f"{FIRST}.bundle"]
+    assert names(store) == [f"{FIRST}.bundle.gz"]
 
 
 @pytest.mark.parametrize("fault", [Fault("no"), KeyboardInterrupt(), OSError("full")])
@@ -64,7 +71,7 @@ def test_after_a_fault_the_folder_is_as_it_was(store: Store, fault: BaseExceptio
     with pytest.raises(type(fault)), store.adding(FIRST) as aside:
         aside.write_bytes(b"half")
         raise fault
-    assert names(store) == [f"{FIRST}.bundle"]
+    assert names(store) == [f"{FIRST}.bundle.gz"]
     assert store.path_of(FIRST).read_bytes() == before
 
 
@@ -73,8 +80,28 @@ def test_two_at_once_do_not_meet(store: Store) -> None:
         assert one != other
         one.write_bytes(b"one")
         other.write_bytes(b"other")
-    assert store.path_of(FIRST).read_bytes() == b"one"
+    assert content(store, FIRST) == b"one"
+    assert names(store) == [f"{FIRST}.bundle.gz"]
+
+
+def test_a_bundle_is_kept_as_it_is_where_there_is_no_room_to_compress_it(
+    store: Store, monkeypatch: pytest.MonkeyPatch
+) -> None:
+    def fail(_path: pathlib.Path, target: pathlib.Path) -> None:
+        target.write_bytes(b"half")
+        raise OSError(errno.ENOSPC, "No space left on device")
+
+    with store.adding(FIRST) as aside:
+        aside.write_bytes(b"one")
+    with monkeypatch.context() as patched, store.adding(FIRST) as aside:
+        patched.setattr(bundle_file, "compress", fail)
+        aside.write_bytes(b"other")
     assert names(store) == [f"{FIRST}.bundle"]
+    assert store.path_of(FIRST).read_bytes() == b"other"
+    with store.adding(FIRST) as aside:
+        aside.write_bytes(b"third")
+    assert names(store) == [f"{FIRST}.bundle.gz"]
+    assert content(store, FIRST) == b"third"
 
 
 def test_a_bundle_can_be_read_as_the_umask_says(store: Store) -> None:
@@ -189,7 +216,7 @@ def folder(tmp_path: pathlib.Path, monkeypatch: pytest.MonkeyPatch) -> pathlib.P
     """The folder in which the process is, of which cargo knows nothing."""
     folder = tmp_path.resolve()
     monkeypatch.chdir(folder)
-    monkeypatch.setattr(location, "target_of_cargo", lambda manifest=None: None)
+    monkeypatch.setattr(location, "of_cargo", lambda manifest=None: None)
     monkeypatch.delenv("REZOVAMY_RUNS", raising=False)
     return folder
 
@@ -197,7 +224,7 @@ def folder(tmp_path: pathlib.Path, monkeypatch: pytest.MonkeyPatch) -> pathlib.P
 @pytest.mark.usefixtures("folder")
 def test_the_environment_says_it(monkeypatch: pytest.MonkeyPatch) -> None:
     monkeypatch.setenv("REZOVAMY_RUNS", "/some/where")
-    assert location.runs_folder() == pathlib.Path("/some/where")
+    assert run_folder.here().folder == pathlib.Path("/some/where")
 
 
 @pytest.mark.parametrize(
@@ -232,10 +259,10 @@ def test_without_cargo_it_is_that_of_the_workspace_above(
     (folder / "Cargo.toml").write_text('[workspace]\nmembers = ["member"]\n')
     (folder / "member/Cargo.toml").write_text("[package]\n")
     monkeypatch.chdir(folder / "member/src")
-    assert location.runs_folder() == folder / "target/rezovamy-runs"
+    assert run_folder.here().folder == folder / "target/rezovamy-runs"
     (folder / "Cargo.toml").write_text("[package]\n")
-    assert location.runs_folder() == folder / "member/target/rezovamy-runs"
-    named = location.runs_folder(str(folder / "Cargo.toml"))
+    assert run_folder.here().folder == folder / "member/target/rezovamy-runs"
+    named = run_folder.here(str(folder / "Cargo.toml")).folder
     assert named == folder / "target/rezovamy-runs"
 
 
@@ -257,7 +284,7 @@ def test_a_target_directory_that_is_made_is_marked_as_cargo_does(
 @pytest.mark.usefixtures("folder")
 def test_outside_of_workspaces_it_is_a_fault() -> None:
     with pytest.raises(Fault, match="REZOVAMY_RUNS"):
-        location.runs_folder()
+        run_folder.here().folder
 
 
 @pytest.mark.usefixtures("folder")

@@ -96,7 +96,7 @@ def run(arguments: list[str]) -> int:
     """Do what the words ask for, and return the status."""
     own, rest = split_rest(arguments)
     words = parser(own[:1] if own and own[0] in COMMANDS else COMMANDS).parse_args(own)
-    words.rest = rest
+    words.rest, words.command_line = rest, [PROGRAM, *arguments]
     if words.command is None:
         raise Fault(
             f"a command is wanted, one of {', '.join(COMMANDS)}; "

@@ -3,8 +3,6 @@
 from __future__ import annotations
 
 import dataclasses
-import pathlib
-import subprocess
 
 COMMAND = (
     "git",
@@ -16,7 +14,6 @@ COMMAND = (
 )
 COMMIT, BRANCH = "# branch.oid ", "# branch.head "
 NO_COMMIT, NO_BRANCH = "(initial)", "(detached)"
-LONGEST_WAIT = 10
 
 
 @dataclasses.dataclass(frozen=True)
@@ -45,19 +42,3 @@ def said(lines: list[str], beginning: str, none: str) -> str | None:
     found = next((line for line in lines if line.startswith(beginning)), beginning + none)
     value = found.removeprefix(beginning)
     return None if value == none else value
-
-
-def ask(folder: pathlib.Path) -> GitState:
-    """Ask git about the tree of a folder; nothing is known if git or the tree is missing."""
-    try:
-        done = subprocess.run(
-            COMMAND,
-            cwd=folder,
-            capture_output=True,
-            check=True,
-            stdin=subprocess.DEVNULL,
-            timeout=LONGEST_WAIT,
-        )
-    except (OSError, subprocess.SubprocessError):
-        return GitState()
-    return state_of(done.stdout.decode("utf-8", "replace"))

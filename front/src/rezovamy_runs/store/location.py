@@ -3,6 +3,7 @@
 
 from __future__ import annotations
 
+import dataclasses
 import os
 import pathlib
 import re
@@ -16,26 +17,44 @@ VARIABLE = "REZOVAMY_RUNS"
 WORKSPACE = re.compile(r"^\s*\[workspace", re.M)
 
 
-def target_of_cargo(manifest: str | None = None) -> pathlib.Path | None:
-    """Return the target directory of the workspace as cargo says it, None if it can't be asked."""
+@dataclasses.dataclass(frozen=True)
+class Workspace:
+    """A workspace: the folder of its manifest, and its target directory."""
+
+    root: pathlib.Path
+    target: pathlib.Path
+
+
+def workspace(manifest: str | None = None) -> Workspace | None:
+    """Return the workspace of a manifest, or of the current folder; None if there is none.
+
+    Cargo says it, or else the manifests.
+    """
+    folder = pathlib.Path(manifest).resolve().parent if manifest else pathlib.Path.cwd()
+    return of_cargo(manifest) or by_manifests(folder)
+
+
+def of_cargo(manifest: str | None = None) -> Workspace | None:
+    """Return a workspace as cargo says it, None if it can't be asked."""
     try:
-        return pathlib.Path(cargo.metadata(manifest).text("target_directory"))
+        said = cargo.metadata(manifest)
+        return Workspace(
+            pathlib.Path(said.text("workspace_root")), pathlib.Path(said.text("target_directory"))
+        )
     except cargo.FAULTS:
         return None
 
 
-def target_by_manifests(folder: pathlib.Path) -> pathlib.Path | None:
-    """Return the target directory of the nearest package, or of the workspace above it.
-
-    It is None where there is neither.
-    """
+def by_manifests(folder: pathlib.Path) -> Workspace | None:
+    """Return the nearest package, or the workspace above it; None if there is neither."""
     found = [place for place in (folder, *folder.parents) if (place / "Cargo.toml").is_file()]
     workspaces = [
         place
         for place in found
         if WORKSPACE.search((place / "Cargo.toml").read_text(errors="replace"))
     ]
-    return (workspaces or found)[0] / "target" if found else None
+    root = next(iter(workspaces or found), None)
+    return Workspace(root, root / "target") if root else None
 
 
 def named_folder() -> pathlib.Path | None:
@@ -44,16 +63,11 @@ def named_folder() -> pathlib.Path | None:
     return pathlib.Path(named) if named else None
 
 
-def runs_folder(manifest: str | None = None) -> pathlib.Path:
-    """Return the folder of the runs of the workspace here, or of that of a manifest."""
-    named = named_folder()
-    if named is not None:
-        return named
-    folder = pathlib.Path(manifest).resolve().parent if manifest else pathlib.Path.cwd()
-    target = target_of_cargo(manifest) or target_by_manifests(folder)
-    if target is None:
+def runs_folder(found: Workspace | None) -> pathlib.Path:
+    """Return the folder of the runs of a workspace, if the environment names none."""
+    if found is None:
         raise Fault(
             "no Cargo.toml is here or above: go into a workspace, "
             f"or name the folder of the runs in {VARIABLE}"
         )
-    return target / FOLDER
+    return found.target / FOLDER

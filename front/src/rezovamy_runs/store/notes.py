@@ -11,6 +11,7 @@ import re
 from collections.abc import Mapping
 from typing import Self
 
+from rezovamy_runs.bundles import bundle_file
 from rezovamy_runs.faults.fault import Fault
 from rezovamy_runs.json_values import JsonObject, Members, WrongMember, members_of, text_of
 from rezovamy_runs.store import whole_file
@@ -203,8 +204,7 @@ def free_of(members: Members) -> dict[str, str]:
 
 def path_beside(bundle: pathlib.Path) -> pathlib.Path:
     """Return where the notes of a bundle are."""
-    run_id = bundle.name.removesuffix(".gz").removesuffix(".bundle")
-    return bundle.with_name(f"{run_id}{ENDING}")
+    return bundle_file.beside(bundle, ENDING)
 
 
 def read(path: pathlib.Path) -> RunNotes | None:
