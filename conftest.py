@@ -1,11 +1,13 @@
 """What all Python tests share: what each needs of the machine, and what follows if that is missing.
 
-A test that is marked `program`, `cargo` or `browser` needs the built program, cargo or Chromium.
+A test that is marked `program`, `cargo`, `browser` or `postgres` needs the built program, cargo,
+Chromium, or a server of PostgreSQL with psycopg.
 Where it is missing the test is skipped; with REZOVAMY_TEST_ALL=1, as in the gate, it fails.
 """
 
 from __future__ import annotations
 
+import importlib.util
 import os
 import pathlib
 import shutil
@@ -13,6 +15,8 @@ import signal
 from typing import NoReturn
 
 import pytest
+
+from tests import postgres
 
 TOP = pathlib.Path(__file__).resolve().parent
 BUILT = TOP / "crates/rezovamy/out/rezovamy"
@@ -24,6 +28,11 @@ def program_path() -> pathlib.Path | None:
     named = os.environ.get("REZOVAMY")
     path = pathlib.Path(named).resolve() if named else BUILT
     return path if os.access(path, os.X_OK) else None
+
+
+def has_postgres() -> bool:
+    """Tell whether a server of PostgreSQL and psycopg are here."""
+    return postgres.programs() is not None and importlib.util.find_spec("psycopg") is not None
 
 
 def leave_out(missing: str) -> NoReturn:
@@ -48,6 +57,8 @@ def pytest_runtest_setup(item: pytest.Item) -> None:
         leave_out("the built program")
     if item.get_closest_marker("cargo") and shutil.which("cargo") is None:
         leave_out("cargo")
+    if item.get_closest_marker("postgres") and not has_postgres():
+        leave_out("PostgreSQL or psycopg")
     if item.get_closest_marker("browser") and not any(map(shutil.which, BROWSERS)):
         leave_out("Chromium")
 

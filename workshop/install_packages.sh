@@ -19,12 +19,14 @@ need_module black black
 need_module flake8 flake8
 need_module mypy mypy
 need_module pytest python3-pytest
+need_module psycopg python3-psycopg
 need_command chromium chromium
 need_command groff groff
 need_command node nodejs
 need_command shellcheck shellcheck
 need_command unshare util-linux
 need_command xmllint libxml2-utils
+[ -n "$(ls /usr/lib/postgresql/*/bin/initdb 2>/dev/null)" ] || need_command initdb postgresql
 
 [ -z "$missing" ] && exit 0
 

@@ -154,10 +154,11 @@ def test_a_rerun_says_that_it_is_one(two_runs: FrontEnd) -> None:
 
 def test_flaky(two_runs: FrontEnd) -> None:
     assert two_runs.output("flaky").splitlines() == [
-        "failed  tried again  passed  runs  test",
-        "     1            0       1     2  alpha t0",
-        "     1            0       1     2  alpha t1",
-        "1 test passed each time, over 2 runs",
+        "failed in some runs and passed in others, but not at one commit: 2 tests",
+        "  failed  flaky  passed  runs  test",
+        "       1      0       1     2  alpha t0",
+        "       1      0       1     2  alpha t1",
+        "2 tests failed over 2 runs; the last one ran 3 tests",
     ]
 
 
@@ -166,10 +167,12 @@ def test_flaky_for_scripts(two_runs: FrontEnd) -> None:
     assert first == {
         "binary": "alpha",
         "test": "t0",
+        "kind": "over-commits",
         "runs": 2,
         "passed": 1,
+        "flaky": 0,
         "failed": 1,
-        "retried": 0,
+        "mixed-commits": 0,
     }
 
 

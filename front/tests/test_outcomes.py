@@ -4,16 +4,18 @@ from __future__ import annotations
 
 import pathlib
 
+import pytest
+
 from rezovamy_runs import model
 from rezovamy_runs.history import outcomes as history
-from rezovamy_runs.history.outcomes import Outcome, Outcomes, Record, Slower
+from rezovamy_runs.history.outcomes import Outcome, Outcomes, Slower
 from rezovamy_runs.model import Attempt, Counts, Result, Run, Status, Test, Verdict
 
 
 def outcomes(**verdicts: tuple[str, float]) -> Outcomes:
     """The outcomes of tests, each with its verdict and its seconds."""
     return {
-        alpha(name): Outcome(Verdict(verdict), seconds, verdict == "flaky")
+        alpha(name): Outcome(Verdict(verdict), seconds, 2 if verdict == "flaky" else 1)
         for name, (verdict, seconds) in verdicts.items()
     }
 
@@ -83,39 +85,38 @@ def test_of_a_test_that_ran_several_times_the_worst_counts() -> None:
         cli_args=(),
         tests=tuple(Test("a", "t", (one,), has_finished=True) for one in (passed, failed)),
     )
-    assert history.outcomes(run) == {("a", "t"): Outcome(Verdict("fail"), 3.0, False)}
+    assert history.outcomes(run) == {("a", "t"): Outcome(Verdict("fail"), 3.0, 1, "fail")}
 
 
-def test_the_least_trusted_come_first() -> None:
-    runs = [
-        outcomes(
-            steady=("pass", 0),
-            broken=("fail", 0),
-            often=("fail", 0),
-            seldom=("pass", 0),
-            retried=("flaky", 0),
-            off=("skip", 0),
-        ),
-        outcomes(
-            steady=("pass", 0),
-            broken=("fail", 0),
-            often=("fail", 0),
-            seldom=("pass", 0),
-            retried=("pass", 0),
-        ),
-        outcomes(
-            steady=("pass", 0),
-            broken=("unfinished", 0),
-            often=("pass", 0),
-            seldom=("fail", 0),
-            retried=("flaky", 0),
-        ),
-        outcomes(seldom=("pass", 0)),
-    ]
-    assert history.records(runs) == [
-        Record(alpha("often"), runs=3, passed=1, failed=2, retried=0, doubtful=2),
-        Record(alpha("retried"), runs=3, passed=3, failed=0, retried=2, doubtful=2),
-        Record(alpha("seldom"), runs=4, passed=3, failed=1, retried=0, doubtful=1),
-        Record(alpha("broken"), runs=2, passed=0, failed=2, retried=0, doubtful=2),
-        Record(alpha("steady"), runs=3, passed=3, failed=0, retried=0, doubtful=0),
-    ]
+# The outcome of a test that ran again, by how it ended before and again.
+AGAIN = [
+    ("pass", "pass", "pass"),
+    ("fail", "pass", "flaky"),
+    ("fail", "flaky", "flaky"),
+    ("fail", "fail", "fail"),
+    ("fail", "skip", "fail"),
+    ("fail", "unfinished", "fail"),
+    ("flaky", "pass", "flaky"),
+    ("flaky", "fail", "fail"),
+    ("skip", "fail", "fail"),
+    ("unfinished", "pass", "pass"),
+    ("unfinished", "unfinished", "unfinished"),
+]
+
+
+@pytest.mark.parametrize(("before", "again", "verdict"), AGAIN)
+def test_what_ran_again_joins_what_ran_before(before: str, again: str, verdict: str) -> None:
+    earlier, later = Outcome(Verdict(before), 1.0), Outcome(Verdict(again), 2.0)
+    assert history.joined(earlier, later).verdict == Verdict(verdict)
+
+
+def test_what_ran_again_has_the_attempts_of_both_and_the_time_of_the_last() -> None:
+    earlier = Outcome(Verdict("fail"), 1.0, 3, "it broke")
+    later = Outcome(Verdict("pass"), 2.0, 2)
+    assert history.joined(earlier, later) == Outcome(Verdict("flaky"), 2.0, 5, "it broke")
+
+
+def test_of_two_shards_with_one_test_the_worse_counts() -> None:
+    passed, failed = Outcome(Verdict("pass"), 3.0, 2), Outcome(Verdict("fail"), 1.0, 1, "no")
+    assert history.worse(passed, failed) == Outcome(Verdict("fail"), 3.0, 2, "no")
+    assert history.worse(failed, passed) == Outcome(Verdict("fail"), 3.0, 2, "no")

@@ -14,9 +14,9 @@ from rezovamy_runs.answers import PROGRAM, WRONG_WORDS, answer
 from rezovamy_runs.faults.fault import Fault
 
 if TYPE_CHECKING:
-    from rezovamy_runs.commands import again, compare, explain, flaky, import_runs, junit
+    from rezovamy_runs.commands import again, compare, explain, flaky, history, import_runs, junit
     from rezovamy_runs.commands import list as list_command
-    from rezovamy_runs.commands import page, prune, show, test, trace
+    from rezovamy_runs.commands import page, prune, reindex, show, slower, slowest, test, trace
 
 ABOUT = "Records the test runs of a Rust workspace, and shows what was recorded."
 # The commands in the order of `--help`.
@@ -30,6 +30,10 @@ COMMANDS = (
     "junit",
     "compare",
     "flaky",
+    "history",
+    "slowest",
+    "slower",
+    "reindex",
     "import",
     "prune",
     "explain",
@@ -131,6 +135,10 @@ if TYPE_CHECKING:
         junit,
         compare,
         flaky,
+        history,
+        slowest,
+        slower,
+        reindex,
         import_runs,
         prune,
         explain,

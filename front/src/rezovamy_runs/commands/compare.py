@@ -10,14 +10,21 @@ from collections.abc import Callable
 from typing import NamedTuple
 
 from rezovamy_runs import formatting, terminal
-from rezovamy_runs.bundles import bundle
 from rezovamy_runs.command_line import options_of, print_lines, print_out, whole
-from rezovamy_runs.history import outcomes
+from rezovamy_runs.commands import history_options
+from rezovamy_runs.commands.history_options import Table
+from rezovamy_runs.faults.fault import Fault
+from rezovamy_runs.history import joining, outcomes, queries
+from rezovamy_runs.history.database import Database
+from rezovamy_runs.history.joining import JoinedRun
 from rezovamy_runs.history.outcomes import Comparison, Outcomes, Slower
-from rezovamy_runs.model import CANCELLED, WITHOUT_END, Run, TestName
+from rezovamy_runs.history.rows import named, outcomes_of
+from rezovamy_runs.json_values import JsonObject
+from rezovamy_runs.model import TestName
 from rezovamy_runs.report import tables
 from rezovamy_runs.report.run_text import name_of
 from rezovamy_runs.store import run_folder
+from rezovamy_runs.store.notes import Part as PartOfTests
 from rezovamy_runs.store.run_folder import Store
 
 SUMMARY = (
@@ -25,6 +32,8 @@ SUMMARY = (
 )
 TAKES_REST = False
 MOST_RUNS = 10
+# The status of --fail where a test fails that didn't before.
+BAD = 4
 
 
 class Part(NamedTuple):
@@ -50,10 +59,41 @@ PARTS = (
 class Options:
     """The options of `compare`."""
 
-    first: str
-    second: str
+    first: str | None
+    second: str | None
     runs: int
+    branch: str | None
+    fail: bool
     json: bool
+    markdown: bool
+
+
+@dataclasses.dataclass(frozen=True)
+class Side:
+    """One of the two runs, and the outcomes of its tests."""
+
+    run: JoinedRun
+    outcomes: Outcomes
+
+
+@dataclasses.dataclass(frozen=True)
+class Compared:
+    """Two runs, and what differs between them."""
+
+    first: Side
+    second: Side
+    found: Comparison
+
+    @property
+    def new_failures(self) -> list[TestName]:
+        """Return the tests that are new, and fail."""
+        return [key for key in self.found.new if self.second.outcomes[key].has_failed]
+
+    @property
+    def is_worse(self) -> bool:
+        """Tell whether a test fails or never ended that didn't before."""
+        found = self.found
+        return bool(found.newly_failing or found.never_ended or self.new_failures)
 
 
 def add_options(parser: argparse.ArgumentParser) -> None:
@@ -61,11 +101,11 @@ def add_options(parser: argparse.ArgumentParser) -> None:
     parser.add_argument(
         "first",
         metavar="A",
-        help="the earlier run: the beginning of its id, the path of a bundle, or last",
+        nargs="?",
+        help="the earlier run: the beginning of its id, the path of a bundle, or last "
+        "(the whole run before B, on its branch)",
     )
-    parser.add_argument(
-        "second", metavar="B", nargs="?", default="last", help="the later run (last)"
-    )
+    parser.add_argument("second", metavar="B", nargs="?", help="the later run (the last whole run)")
     parser.add_argument(
         "--runs",
         type=whole(0, 10**6),
@@ -74,42 +114,142 @@ def add_options(parser: argparse.ArgumentParser) -> None:
         help="how many runs before B say how much the times of a test differ usually "
         f"({MOST_RUNS})",
     )
-    parser.add_argument("--json", action="store_true", help="print JSON for scripts")
+    parser.add_argument("--branch", metavar="NAME", help="take the last whole run of this branch")
+    parser.add_argument(
+        "--fail",
+        action="store_true",
+        help=f"end with status {BAD} where a test fails that didn't before",
+    )
+    history_options.add_form(parser)
 
 
 def run(words: argparse.Namespace) -> int:
     """Print what differs."""
     options = options_of(Options, words)
     runs = run_folder.here()
-    first, second = (
-        bundle.read_run(runs.find(word), outputs=False) for word in (options.first, options.second)
-    )
-    others = [
-        outcomes.outcomes(bundle.read_run(path, outputs=False))
-        for path in earlier(runs, first, second, options.runs)
-    ]
-    before, after = outcomes.outcomes(first), outcomes.outcomes(second)
-    found = outcomes.compare(before, after, others)
+    paths = [runs.find(word) if word else None for word in (options.first, options.second)]
+    if all(path is not None and not is_stored(runs, path) for path in paths):
+        first, second = (side_of(path) for path in paths if path is not None)
+        compared = comparison(first, second, [])
+    else:
+        compared = history_options.ask(
+            runs, lambda database, found: Asked(runs, database, found, options).compared(*paths)
+        )
+    print_compared(compared, options)
+    return BAD if options.fail and compared.is_worse else 0
+
+
+def is_stored(runs: Store, path: pathlib.Path) -> bool:
+    """Tell whether a bundle is one of the folder."""
+    return runs.is_somewhere() and runs.path_of(id_of(path)) == path
+
+
+def id_of(path: pathlib.Path) -> str:
+    """Return the id of the run whose bundle in the folder has this path."""
+    return path.name.partition(".")[0]
+
+
+def side_of(path: pathlib.Path) -> Side:
+    """Return the run of a bundle that isn't in the folder."""
+    recorded = outcomes_of(path)
+    return Side(JoinedRun((recorded.row,)), recorded.outcomes)
+
+
+def comparison(first: Side, second: Side, others: list[Outcomes]) -> Compared:
+    """Return what differs between two runs; the others say what times are usual."""
+    return Compared(first, second, outcomes.compare(first.outcomes, second.outcomes, others))
+
+
+@dataclasses.dataclass(frozen=True)
+class Asked:
+    """What is asked of the history for a comparison."""
+
+    runs: Store
+    database: Database
+    found: list[JoinedRun]
+    options: Options
+
+    def compared(self, first: pathlib.Path | None, second: pathlib.Path | None) -> Compared:
+        """Return what differs between two runs, or the last two whole ones of a branch."""
+        later = self._side(second, self._last_whole)
+        earlier = self._side(first, lambda: self._whole_before(later.run))
+        if first and second and {*earlier.run.rows} & {*later.run.rows}:
+            earlier, later = self._alone(first), self._alone(second)
+        return comparison(earlier, later, self._others(earlier.run, later.run))
+
+    def _side(self, path: pathlib.Path | None, default: Callable[[], JoinedRun]) -> Side:
+        """Return the run of a bundle, or another one if none is named."""
+        if path is not None and not is_stored(self.runs, path):
+            return side_of(path)
+        run = default() if path is None else self._run_of(id_of(path))
+        return Side(run, self._outcomes([run])[0])
+
+    def _alone(self, path: pathlib.Path) -> Side:
+        """Return a run without what counts with it as one, to hold it against just that."""
+        rows = [row for run in self.found for row in run.rows if row.id == id_of(path)]
+        run = JoinedRun(tuple(rows))
+        return Side(run, self._outcomes([run])[0])
+
+    def _run_of(self, run_id: str) -> JoinedRun:
+        """Return the run with which others count as one, or a single one of these others."""
+        for run in self.found:
+            for row in run.rows:
+                if row.id == run_id:
+                    return run if row == run.first else JoinedRun((row,))
+        raise Fault(f"run {run_id} can't be read: record it again, or name another one")
+
+    def _last_whole(self) -> JoinedRun:
+        """Return the last whole run."""
+        chosen = joining.latest(self.found, 1, self.options.branch, only_whole=True)
+        if not chosen:
+            raise Fault(
+                f"no whole run is in {self.runs.folder}: record one with `rezovamy-runs test`, "
+                "or name two runs"
+            )
+        return chosen[0]
+
+    def _whole_before(self, later: JoinedRun) -> JoinedRun:
+        """Return the whole run of the same branch before a run."""
+        before = [run for run in self.found if run.started < later.started and run.is_whole]
+        chosen = [run for run in before if run.branch == later.branch]
+        if not chosen:
+            of_branch = f" of the branch {later.branch}" if later.branch else ""
+            raise Fault(
+                f"no whole run{of_branch} came before run {later.id}: name the run to start from"
+            )
+        return chosen[-1]
+
+    def _outcomes(self, runs: list[JoinedRun]) -> list[Outcomes]:
+        """Return the outcomes of the tests of runs."""
+        names = queries.test_names(self.database)
+        told = queries.outcomes_told(self.database, runs, names)
+        return [*joining.outcomes_by_run(runs, told)]
+
+    def _others(self, first: JoinedRun, second: JoinedRun) -> list[Outcomes]:
+        """Return the outcomes of the latest runs before the second one, without the first."""
+        before = [
+            run
+            for run in self.found
+            if run.started < second.started and run.id not in (first.id, second.id)
+        ]
+        return self._outcomes(joining.latest(before, self.options.runs))
+
+
+def print_compared(compared: Compared, options: Options) -> None:
+    """Print what differs in the form that is asked for."""
     if options.json:
-        print_out(tables.as_json(value_of(first, second, found)))
+        print_out(tables.as_json(value_of(compared)))
+    elif options.markdown:
+        print_lines(markdown_of(compared))
     else:
         paint = terminal.Paint(terminal.colours(sys.stdout))
-        print_lines(lines_of(first, second, found, after, paint))
-    return 0
+        print_lines(lines_of(compared, paint))
 
 
-def earlier(runs: Store, first: Run, second: Run, most: int) -> list[pathlib.Path]:
-    """Return the bundles of the latest runs before the second one, without the first."""
-    summaries = runs.summaries(lambda line: None) if runs.is_somewhere() else []
-    compared = (first.id, second.id)
-    return [
-        one.bundle for one in summaries if one.started < second.started and one.id not in compared
-    ][:most]
-
-
-def value_of(first: Run, second: Run, found: Comparison) -> dict[str, object]:
+def value_of(compared: Compared) -> JsonObject:
     """Return what differs, for scripts."""
-    value: dict[str, object] = {"first": first.id, "second": second.id}
+    found = compared.found
+    value: JsonObject = {"first": compared.first.run.id, "second": compared.second.run.id}
     for part in PARTS:
         value[part.title.replace(" ", "-")] = [named(key) for key in part.tests(found)]
     value["slower"] = [
@@ -125,39 +265,66 @@ def value_of(first: Run, second: Run, found: Comparison) -> dict[str, object]:
     return value
 
 
-def named(key: TestName) -> dict[str, object]:
-    """Return what a test is known by, for scripts."""
-    return {"binary": key.binary, "test": key.test}
+def head_of(compared: Compared) -> str:
+    """Return a line that says which runs are compared."""
+    started = [formatting.moment(side.run.started) for side in (compared.first, compared.second)]
+    return f"from the run of {started[0]} to that of {started[1]}:"
 
 
-def lines_of(
-    first: Run, second: Run, found: Comparison, after: Outcomes, paint: terminal.Paint
-) -> list[str]:
+SAME = "no test ended otherwise, and none became slower"
+
+
+def lines_of(compared: Compared, paint: terminal.Paint) -> list[str]:
     """Return what differs, for people."""
-    started = [formatting.moment(run.started) for run in (first, second)]
-    lines = [line for run in (first, second) for line in doubts_of(run)]
+    found, failing = compared.found, set(compared.new_failures)
+    lines = [line for side in (compared.first, compared.second) for line in doubts_of(side.run)]
     for part in PARTS:
         keys = part.tests(found)
         if keys:
             lines.append(paint(part.colour, f"{part.title}: {formatting.count(len(keys), 'test')}"))
-            marked = [key for key in keys if part.title == NEW and after[key].has_failed]
-            lines += [f"  {name_of(key)}{', which fails' if key in marked else ''}" for key in keys]
+            lines += [
+                f"  {name_of(key)}{', which fails' if key in failing else ''}" for key in keys
+            ]
     if found.slower:
         count = formatting.count(len(found.slower), "test")
         lines += [paint("yellow", f"slower: {count}"), *map(slower_line, found.slower)]
-    return [
-        f"from the run of {started[0]} to that of {started[1]}:",
-        *(lines or ["no test ended otherwise, and none became slower"]),
-    ]
+    return [head_of(compared), *(lines or [SAME])]
 
 
-def doubts_of(run: Run) -> list[str]:
+def markdown_of(compared: Compared) -> list[str]:
+    """Return what differs, as Markdown with what went wrong in each test."""
+    found, after = compared.found, compared.second.outcomes
+    parts = [Table(head_of(compared))]
+    for part in PARTS:
+        rows = [
+            (name_of(key), (after[key].message or "") if key in after else "")
+            for key in part.tests(found)
+        ]
+        if rows:
+            title = f"{part.title}: {formatting.count(len(rows), 'test')}"
+            parts.append(Table(title, ("test", "what went wrong"), rows))
+    if found.slower:
+        slower = [
+            (formatting.duration(one.before), formatting.duration(one.after), name_of(one.key))
+            for one in found.slower
+        ]
+        title = f"slower: {formatting.count(len(slower), 'test')}"
+        parts.append(Table(title, ("before", "after", "test"), slower, ("before", "after")))
+    doubts = [line for side in (compared.first, compared.second) for line in doubts_of(side.run)]
+    said = [*doubts, *([SAME] if len(parts) == 1 and not doubts else [])]
+    lines = [line for part in parts for line in part.markdown()]
+    return [*lines, *map(tables.markdown_text, said)]
+
+
+def doubts_of(run: JoinedRun) -> list[str]:
     """Return lines that say why tests of a run may seem gone or new."""
     lines = []
-    if run.status in CANCELLED or run.status in WITHOUT_END:
+    if any(row.status not in joining.COMPLETED for row in run.rows):
         lines.append("was broken off or isn't known whole, so tests may seem gone or new")
-    if run.parent:
+    if run.first.part == PartOfTests.AGAIN:
         lines.append("ran again only what hadn't passed, so other tests may seem gone or new")
+    if run.first.part == PartOfTests.FILTERED:
+        lines.append("ran only chosen tests, so other tests may seem gone or new")
     return [f"run {run.id} {line}" for line in lines]
 
 

@@ -1,96 +1,89 @@
-"""Says how the tests fared over the recorded runs, the least trusted first."""
+"""Says which tests can't be trusted, by how they fared over the recorded runs."""
 
 from __future__ import annotations
 
 import argparse
-import dataclasses
-from collections.abc import Iterator
 
 from rezovamy_runs import formatting
-from rezovamy_runs.bundles import bundle
-from rezovamy_runs.command_line import options_of, print_lines, print_out, say, whole
-from rezovamy_runs.faults.fault import Fault
-from rezovamy_runs.history import outcomes
-from rezovamy_runs.history.outcomes import Record
-from rezovamy_runs.model import Run
-from rezovamy_runs.report import tables
+from rezovamy_runs.commands import history_options
+from rezovamy_runs.commands.history_options import Table
+from rezovamy_runs.history import flakiness, joining, queries
+from rezovamy_runs.history.database import Database
+from rezovamy_runs.history.flakiness import Kind, Record
+from rezovamy_runs.history.joining import JoinedRun
+from rezovamy_runs.history.rows import named
+from rezovamy_runs.json_values import JsonObject
 from rezovamy_runs.report.run_text import name_of
 from rezovamy_runs.store import run_folder
-from rezovamy_runs.store.run_folder import Store
 
-SUMMARY = (
-    "say how often each test passed, failed and was tried again over the runs, least trusted first"
-)
+SUMMARY = "say which tests fail and pass at one commit, fail at some commits, or always fail"
 TAKES_REST = False
-NUMBERS = ("failed", "tried again", "passed", "runs")
-MOST_RUNS = 50
-
-
-@dataclasses.dataclass(frozen=True)
-class Options:
-    """The options of `flaky`."""
-
-    runs: int
-    all: bool
-    json: bool
+HEADS = ("failed", "flaky", "passed", "runs", "test")
+MOST_RUNS = 1000
+TITLES = {
+    Kind.AT_ONE_COMMIT: "failed and passed at one commit",
+    Kind.OVER_COMMITS: "failed in some runs and passed in others, but not at one commit",
+    Kind.ALWAYS_FAILS: "failed each time",
+    Kind.ALWAYS_PASSES: "passed each time",
+}
 
 
 def add_options(parser: argparse.ArgumentParser) -> None:
-    """Take how many runs are looked at."""
-    parser.add_argument(
-        "--runs",
-        type=whole(1, 10**6),
-        default=MOST_RUNS,
-        metavar="N",
-        help=f"how many of the latest runs are read ({MOST_RUNS})",
-    )
+    """Take which runs are looked at, and the form."""
+    history_options.add_window(parser, MOST_RUNS)
     parser.add_argument(
         "--all", action="store_true", help="name the tests that passed each time too"
     )
-    parser.add_argument("--json", action="store_true", help="print JSON for scripts, of all tests")
+    history_options.add_form(parser)
 
 
 def run(words: argparse.Namespace) -> int:
-    """Print a line for each test that failed or was tried again."""
-    options = options_of(Options, words)
-    found = [outcomes.outcomes(read) for read in latest(run_folder.here(), options.runs)]
-    records = outcomes.records(found)
-    if options.json:
-        print_out(tables.as_json([value_of(record) for record in records]))
-        return 0
-    shown = [row_of(record) for record in records if options.all or record.doubtful]
-    lines = tables.table((*NUMBERS, "test"), shown, NUMBERS) if shown else []
-    trusted = formatting.count(sum(not record.doubtful for record in records), "test")
-    over = formatting.count(len(found), "run")
-    print_lines([*lines, f"{trusted} passed each time, over {over}"])
+    """Print the tests that failed, the least trusted first."""
+    runs = run_folder.here()
+
+    def question(
+        database: Database, found: list[JoinedRun]
+    ) -> tuple[list[JoinedRun], list[Record], int]:
+        """Ask for the tallies of the chosen runs."""
+        chosen = joining.latest(found, words.runs, words.branch)
+        names = queries.test_names(database)
+        records = flakiness.records(queries.tallies(database, chosen, names, words.all))
+        return chosen, records, queries.count_tests(database, chosen[-1]) if chosen else 0
+
+    chosen, records, tests = history_options.ask(runs, question)
+    history_options.print_answer(
+        words, lambda: [value_of(one) for one in records], parts_of(records, len(chosen), tests)
+    )
     return 0
 
 
-def latest(runs: Store, most: int) -> Iterator[Run]:
-    """Read the latest runs; one that can't be read is said."""
-    read = 0
-    for one in runs.summaries(lambda line: say(f"rezovamy-runs: {line}")):
-        if read == most:
-            return
-        try:
-            yield bundle.read_run(one.bundle, outputs=False)
-            read += 1
-        except Fault as fault:
-            say(f"rezovamy-runs: {fault}")
+def parts_of(records: list[Record], runs: int, tests: int) -> list[Table | str]:
+    """Return what is said for people."""
+    parts: list[Table | str] = []
+    for kind, title in TITLES.items():
+        rows = [row_of(one) for one in records if one.kind is kind]
+        if rows:
+            count = formatting.count(len(rows), "test")
+            parts.append(Table(f"{title}: {count}", HEADS, rows, HEADS[:-1]))
+    doubtful = sum(one.kind is not Kind.ALWAYS_PASSES for one in records)
+    over = formatting.count(runs, "run")
+    said = f"{formatting.count(doubtful, 'test')} failed over {over}"
+    return [*parts, f"{said}; the last one ran {formatting.count(tests, 'test')}"]
 
 
 def row_of(record: Record) -> tuple[object, ...]:
     """Return what is said of a test for people."""
-    return record.failed, record.retried, record.passed, record.runs, name_of(record.key)
+    return record.failed, record.flaky, record.passed, record.runs, name_of(record.test)
 
 
-def value_of(record: Record) -> dict[str, object]:
+def value_of(record: Record) -> JsonObject:
     """Return what is said of a test for scripts."""
     return {
-        "binary": record.key.binary,
-        "test": record.key.test,
+        **named(record.test),
+        "kind": record.kind.name.lower().replace("_", "-"),
         "runs": record.runs,
         "passed": record.passed,
+        "flaky": record.flaky,
         "failed": record.failed,
-        "retried": record.retried,
+        "mixed-commits": record.mixed,
     }

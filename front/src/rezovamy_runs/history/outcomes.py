@@ -6,7 +6,8 @@ import dataclasses
 import statistics
 from collections.abc import Iterable, Mapping, Sequence
 
-from rezovamy_runs.model import Run, TestName, Verdict
+from rezovamy_runs import formatting
+from rezovamy_runs.model import Run, Test, TestName, Verdict
 
 # Of the verdicts that a test has in the sub-runs of one run, the first of these counts.
 WORST_FIRST = (
@@ -24,15 +25,27 @@ UNKNOWN = (Verdict.SKIP, Verdict.UNFINISHED)
 FEWEST_TIMES = 3
 # A difference below this says nothing, in seconds.
 LEAST = 0.05
+# The most characters of what went wrong.
+MOST_MESSAGE = 500
 
 
-@dataclasses.dataclass(frozen=True)
+@dataclasses.dataclass(frozen=True, slots=True)
 class Outcome:
-    """How a test ended in a run, how long it took there, and whether it was tried again."""
+    """How a test ended in a run.
+
+    It has the active time of the last attempt, the number of attempts, and of a test that didn't
+    just pass what went wrong, in one line.
+    """
 
     verdict: Verdict
     seconds: float
-    was_retried: bool
+    attempts: int = 1
+    message: str | None = None
+
+    @property
+    def was_retried(self) -> bool:
+        """Tell whether it was tried again."""
+        return self.attempts > 1
 
     @property
     def is_good(self) -> bool:
@@ -56,14 +69,53 @@ def outcomes(run: Run) -> Outcomes:
     """
     found: dict[TestName, Outcome] = {}
     for test in run.tests:
-        outcome = Outcome(test.verdict, test.seconds, len(test.attempts) > 1)
-        other = found.get(test.key, outcome)
-        found[test.key] = Outcome(
-            min(outcome.verdict, other.verdict, key=WORST_FIRST.index),
-            max(outcome.seconds, other.seconds),
-            outcome.was_retried or other.was_retried,
-        )
+        key = TestName(formatting.name(test.binary), formatting.name(test.name))
+        outcome = outcome_of(test)
+        found[key] = worse(outcome, found[key]) if key in found else outcome
     return found
+
+
+def outcome_of(test: Test) -> Outcome:
+    """Return the outcome of a test."""
+    return Outcome(test.verdict, test.seconds, max(1, len(test.attempts)), message_of(test))
+
+
+def message_of(test: Test) -> str | None:
+    """Return what went wrong in the last attempt that didn't pass, in one line."""
+    for attempt in reversed(test.attempts):
+        if not attempt.passed and test.has_finished:
+            said = next(filter(None, (attempt.errors or "").splitlines()), "")
+            return formatting.name(said or attempt.detail or attempt.result.value)[:MOST_MESSAGE]
+    return None
+
+
+def worse(one: Outcome, other: Outcome) -> Outcome:
+    """Return the outcome of a test that ran twice in a run: the worse verdict, the longer time."""
+    first = min(one, other, key=lambda outcome: WORST_FIRST.index(outcome.verdict))
+    return Outcome(
+        first.verdict,
+        max(one.seconds, other.seconds),
+        max(one.attempts, other.attempts),
+        first.message,
+    )
+
+
+def joined(earlier: Outcome, later: Outcome) -> Outcome:
+    """Return the outcome of a test of a run, of which a later run tried it again.
+
+    What failed and then passed is flaky. What isn't known of the later run changes nothing.
+    """
+    if later.verdict in UNKNOWN:
+        return earlier
+    if earlier.verdict in UNKNOWN:
+        return later
+    has_differed = earlier.verdict is Verdict.FLAKY or earlier.has_failed and later.is_good
+    return Outcome(
+        Verdict.FLAKY if has_differed and later.is_good else later.verdict,
+        later.seconds,
+        earlier.attempts + later.attempts,
+        later.message or earlier.message,
+    )
 
 
 @dataclasses.dataclass(frozen=True)
@@ -129,50 +181,3 @@ def slowed(
     if after <= max(before, usual) + max(spread, LEAST):
         return None
     return Slower(key, before, after, usual, spread)
-
-
-@dataclasses.dataclass(frozen=True)
-class Record:
-    """How a test fared over several runs; what passed when it was tried again has passed too."""
-
-    key: TestName
-    runs: int = 0
-    passed: int = 0
-    failed: int = 0
-    retried: int = 0
-    # Runs in which it failed or had to be tried again.
-    doubtful: int = 0
-
-    @property
-    def is_mixed(self) -> bool:
-        """Tell whether it passed as well as it failed, over the runs or within one."""
-        return bool(self.doubtful and self.passed)
-
-
-def record_of(key: TestName, told: Sequence[Outcome]) -> Record:
-    """Return the record of a test over its outcomes."""
-    return Record(
-        key,
-        runs=len(told),
-        passed=sum(one.is_good for one in told),
-        failed=sum(one.has_failed for one in told),
-        retried=sum(one.was_retried for one in told),
-        doubtful=sum(one.was_retried or one.has_failed for one in told),
-    )
-
-
-def records(runs: Iterable[Outcomes]) -> list[Record]:
-    """Return the record of each test over the outcomes of runs, the least trusted first.
-
-    Those that now pass and now fail come before those that always fail, and these before those
-    that always pass.
-    """
-    found: dict[TestName, list[Outcome]] = {}
-    for run in runs:
-        for key, outcome in run.items():
-            if outcome.verdict not in UNKNOWN:
-                found.setdefault(key, []).append(outcome)
-    return sorted(
-        (record_of(key, told) for key, told in found.items()),
-        key=lambda one: (not one.is_mixed, -one.doubtful / one.runs, -one.doubtful, one.key),
-    )

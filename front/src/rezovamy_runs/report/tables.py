@@ -3,7 +3,11 @@
 from __future__ import annotations
 
 import json
+import re
 from collections.abc import Container, Iterable, Sequence
+
+# What means something in Markdown where it stands in a cell or a line.
+MARKDOWN = re.compile(r"[\\`*_|<>\[\]~#]")
 
 
 def table(
@@ -29,3 +33,17 @@ def as_json(value: object) -> str:
     """
     text = json.dumps(value, indent=2, ensure_ascii=False)
     return text.encode("utf-8", "backslashreplace").decode() + "\n"
+
+
+def markdown(
+    heads: Sequence[str], rows: Iterable[Sequence[object]], right: Container[str] = ()
+) -> list[str]:
+    """Return the lines of a table of Markdown."""
+    marks = ["---:" if head in right else "---" for head in heads]
+    shown = [[markdown_text(str(cell)) for cell in row] for row in rows]
+    return [f"| {' | '.join(row)} |" for row in (list(heads), marks, *shown)]
+
+
+def markdown_text(text: str) -> str:
+    """Return a text that Markdown shows as it stands."""
+    return MARKDOWN.sub(r"\\\g<0>", text)
