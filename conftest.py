@@ -1,7 +1,8 @@
 """What all Python tests share: what each needs of the machine, and what follows if that is missing.
 
-A test that is marked `program`, `cargo` or `browser` needs the built program, cargo or Chromium.
-Where it is missing the test is skipped; with REZOVAMY_TEST_ALL=1, as in the gate, it fails.
+A test that is marked `program`, `cargo`, `browser` or `firefox` needs the built program, cargo,
+Chromium or Firefox. Where it is missing the test is skipped; with REZOVAMY_TEST_ALL=1, as in the
+gate, it fails.
 """
 
 from __future__ import annotations
@@ -17,6 +18,7 @@ import pytest
 TOP = pathlib.Path(__file__).resolve().parent
 BUILT = TOP / "crates/rezovamy/out/rezovamy"
 BROWSERS = ("chromium", "chromium-browser", "google-chrome")
+FIREFOX = ("firefox-esr", "firefox")
 
 
 def program_path() -> pathlib.Path | None:
@@ -50,6 +52,8 @@ def pytest_runtest_setup(item: pytest.Item) -> None:
         leave_out("cargo")
     if item.get_closest_marker("browser") and not any(map(shutil.which, BROWSERS)):
         leave_out("Chromium")
+    if item.get_closest_marker("firefox") and not any(map(shutil.which, FIREFOX)):
+        leave_out("Firefox")
 
 
 @pytest.fixture(scope="session")

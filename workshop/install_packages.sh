@@ -20,6 +20,7 @@ need_module flake8 flake8
 need_module mypy mypy
 need_module pytest python3-pytest
 need_command chromium chromium
+need_command firefox-esr firefox-esr
 need_command groff groff
 need_command node nodejs
 need_command shellcheck shellcheck

@@ -129,15 +129,15 @@ class Browser:
             assert time.monotonic() <= until, f"it never comes: {code}"
             time.sleep(0.02)
 
-    def open(
-        self, path: pathlib.Path, wide: int = 1400, high: int = 900, dark: bool = False
-    ) -> None:
+    def open(self, address: str, wide: int = 1400, high: int = 900, dark: bool = False) -> None:
         """Open a page in a window of this size."""
         size: Json = {"width": wide, "height": high, "deviceScaleFactor": 1, "mobile": False}
         self.ask("Emulation.setDeviceMetricsOverride", **size)
         scheme = {"name": "prefers-color-scheme", "value": "dark" if dark else "light"}
         self.ask("Emulation.setEmulatedMedia", features=[scheme])
-        self.ask("Page.navigate", url=path.resolve().as_uri())
+        # To another fragment of the page that is open a browser only scrolls.
+        self.ask("Page.navigate", url="about:blank")
+        self.ask("Page.navigate", url=address)
         self.wait_until("document.readyState === 'complete'")
         # Before the first frame a browser drops what mouse and keys do.
         self.evaluate(NEXT_FRAME)
@@ -184,7 +184,7 @@ class Browser:
             for event in self.events
             if event.get("method") == "Network.requestWillBeSent"
         ]
-        return [address for address in addresses if not address.startswith("data:")]
+        return [address for address in addresses if not address.startswith(("data:", "about:"))]
 
     def close(self) -> None:
         """End the browser, if need be by force."""

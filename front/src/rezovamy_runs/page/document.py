@@ -20,12 +20,14 @@ LONGEST_PROFILE = 50
 # In the order in which they need one another.
 SCRIPTS = (
     "text",
+    "copying",
     "data",
     "head",
     "list",
     "timeline",
     "drawing",
     "pointing",
+    "address",
     "details",
     "overview",
     "main",

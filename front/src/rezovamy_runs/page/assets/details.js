@@ -45,6 +45,7 @@ function attempt_card(attempt) {
     element("h3", "", title[0].toUpperCase() + title.slice(1)),
     element("span", `result is-${result_state(attempt)}`, ending_of(attempt)),
     ...also.filter(Boolean).map((one) => element("span", "also", one)),
+    link_to_attempt(attempt),
   ));
   if (attempt.error) {
     card.append(element("div", "error mono", safe_nodes(attempt.error, sought_in_outputs())));
@@ -53,6 +54,13 @@ function attempt_card(attempt) {
   const silence = silence_of(attempt);
   if (silence) card.append(element("p", "none", silence));
   return card;
+}
+
+// The only attempt of a test has the link of the test.
+function link_to_attempt(attempt) {
+  const { test, number } = attempt;
+  if (test.attempts.length < 2) return "";
+  return link_button(`attempt ${number}`, () => words_for_test(test, attempt));
 }
 
 function silence_of(attempt) {
@@ -74,7 +82,10 @@ function output_part(stream, output) {
   const lines = output.text.split("\n").length - (output.text.endsWith("\n") ? 1 : 0);
   const told = bytes(output.size) + (output.note ? "" : `, ${plural(lines, "line")}`);
   const summary = element("summary", "", element("b", "", STREAMS[stream]), told);
-  if (output.text) summary.append(copy_button(output.text));
+  if (output.text) {
+    const label = `Copy ${STREAMS[stream].toLowerCase()}`;
+    summary.append(copy_button("Copy", label, () => clean(output.text)));
+  }
   part.append(summary);
   if (output.text) {
     const text = element("pre", "", ...shown_nodes(output.text));
@@ -103,25 +114,9 @@ function character_before(text, place) {
   return /[\ud800-\udbff]/.test(text[place - 1]) ? place - 1 : place;
 }
 
-function copy_button(text) {
-  const button = element("button", "quiet", "Copy");
-  button.type = "button";
-  button.addEventListener("click", async (event) => {
-    event.preventDefault();
-    const clean = (part, colour) => (colour === undefined ? spelled(part) : "");
-    button.textContent = await copied(text.replace(SPECIAL, clean)) ? "Copied" : "Not copied";
-    setTimeout(() => { button.textContent = "Copy"; }, 1500);
-  });
-  return button;
-}
-
-async function copied(text) {
-  try {
-    await navigator.clipboard.writeText(text);
-    return true;
-  } catch {
-    return false;
-  }
+// A text as it is safe to paste into a terminal: without colours, with what could do harm spelled.
+function clean(text) {
+  return text.replace(SPECIAL, (part, colour) => (colour === undefined ? spelled(part) : ""));
 }
 
 function back_button() {
@@ -134,7 +129,9 @@ function back_button() {
 }
 
 function draw_test(test) {
-  const head = element("h2", "", state_mark(test.end), element("span", "", safe_nodes(test.name)));
+  const link = link_button("this test", () => words_for_test(test));
+  const name = element("span", "", safe_nodes(test.name));
+  const head = element("div", "test-head", element("h2", "", state_mark(test.end), name), link);
   const facts = [
     test.place, STATES[test.end === "script" ? "passed" : test.end].word, time_of(test),
     test.flaky_fails ? "passing at a later attempt counts as a failure" : "", test.command ?? "",

@@ -123,7 +123,8 @@ function draw_run() {
   const tests = TESTS.filter((test) => test.state !== "script" && test.attempts.length);
   const flaky = tests.filter((test) => test.state === "flaky");
   const slowest = [...tests].sort(ORDERS.slowest).slice(0, 10);
-  const warnings = RUN.notes.map((note) => element("p", "warning", note));
+  const notes = [missing, ...RUN.notes].filter(Boolean);
+  const warnings = notes.map((note) => element("p", "warning", note));
   const with_reason = (test) => ({ reason: why(test) });
   details.replaceChildren(
     ...warnings,

@@ -220,6 +220,8 @@ function start_timeline() {
 }
 
 function start_buttons() {
+  const link = link_button("this stretch of the timeline", () => words_for_stretch(view));
+  document.getElementById("time-link").append(link);
   for (const button of row_buttons) {
     button.addEventListener("click", () => set_rows(button.dataset.rows));
   }
