@@ -112,6 +112,14 @@ def test_the_run_is_told(page: Page) -> None:
     assert page.value["notes"] == [cancelled, "2 tests more were announced, and never started."]
 
 
+def test_failures_stand_by_their_causes(page: Page) -> None:
+    # The script is at place 0, and the tests are in the order in which they started.
+    assert page.value["causes"] == [
+        {"title": "failed, exit code 101", "tests": [1]},
+        {"title": "never ended", "tests": [3]},
+    ]
+
+
 def test_a_run_without_an_end_says_so(tmp_path: pathlib.Path) -> None:
     page = page_of((EXAMPLES / "pause_and_retry.session").read_text(), tmp_path)
     note = "The run was broken off, or the recording of it was: it has no end."
@@ -275,6 +283,7 @@ def title_of(tests: list[PageTest], profile: str = "ci") -> str:
         },
         "binaries": [],
         "tests": tests,
+        "causes": [],
         "outputs": [],
         "notes": [],
         "pauses": [],

@@ -14,6 +14,7 @@ from typing import Literal, NotRequired, TypeAlias, TypedDict
 from rezovamy_runs import formatting
 from rezovamy_runs.bundles.slices import Drawing, Span
 from rezovamy_runs.model import Attempt, Run, Script, Status, Test, TestName, Verdict
+from rezovamy_runs.page.causes import PageCause, cause_of, grouped
 
 State: TypeAlias = Literal["failed", "unfinished", "flaky", "passed", "skipped", "script"]
 
@@ -79,6 +80,7 @@ class PageData(TypedDict):
     run: PageRun
     binaries: list[str]
     tests: list[PageTest]
+    causes: list[PageCause]
     outputs: list[PageOutput]
     notes: list[str]
     pauses: list[tuple[int, int]]
@@ -343,6 +345,21 @@ def page_run(run: Run) -> PageRun:
     }
 
 
+def causes_of(run: Run) -> list[PageCause]:
+    """Return why setup scripts and tests failed; a page has the scripts before the tests."""
+    scripts = [
+        (place, cause_of(script.id, [script.attempt]))
+        for place, script in enumerate(run.scripts)
+        if not script.attempt.passed
+    ]
+    tests = [
+        (len(run.scripts) + place, cause_of(test.binary, test.attempts))
+        for place, test in enumerate(run.tests)
+        if test.verdict in (Verdict.FAIL, Verdict.UNFINISHED)
+    ]
+    return grouped(scripts + tests)
+
+
 def page_data(run: Run, drawing: Drawing, outputs: Outputs) -> PageData:
     """Return all that a page knows of a run."""
     binaries = Binaries()
@@ -355,6 +372,7 @@ def page_data(run: Run, drawing: Drawing, outputs: Outputs) -> PageData:
         "run": page_run(run),
         "binaries": list(binaries.places),
         "tests": tests,
+        "causes": causes_of(run),
         "outputs": outputs.kept,
         "notes": notes_of(run, outputs),
         "pauses": [(begin - drawing.begin, end - drawing.begin) for begin, end in drawing.pauses],

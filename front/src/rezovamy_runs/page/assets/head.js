@@ -1,16 +1,19 @@
 // The top of the page: how the run ended, in a line, and whose it is.
 
 function draw_headline() {
-  const parts = STATES_OF_TESTS.filter((state) => COUNTS[state]);
-  const headline = document.getElementById("headline");
-  headline.replaceChildren();
-  parts.forEach((state, at) => {
-    const loud = state === "failed" || (state === "passed" && !COUNTS.failed && !COUNTS.unfinished);
-    const comma = at < parts.length - 1 ? element("span", "rest", ",") : "";
-    const told = `${whole(COUNTS[state])} ${STATES[state].word}`;
-    headline.append(element("span", "", element("span", loud ? state : "rest", told), comma), " ");
+  const is_green = !COUNTS.failed && !COUNTS.unfinished && !FAILED_SCRIPTS.length;
+  const parts = STATES_OF_TESTS.filter((state) => COUNTS[state]).map((state) => {
+    const is_loud = state === "failed" || (state === "passed" && is_green);
+    return [is_loud ? state : "rest", `${whole(COUNTS[state])} ${STATES[state].word}`];
   });
-  if (!parts.length) headline.append("No test ran");
+  const scripts = FAILED_SCRIPTS.length;
+  if (scripts) parts.unshift(["failed", `${plural(scripts, "setup script")} failed`]);
+  const headline = document.getElementById("headline");
+  headline.replaceChildren(...(parts.length ? [] : ["No test ran"]));
+  parts.forEach(([style, told], at) => {
+    const comma = at < parts.length - 1 ? element("span", "rest", ",") : "";
+    headline.append(element("span", "", element("span", style, told), comma), " ");
+  });
 }
 
 function draw_facts() {
@@ -19,7 +22,7 @@ function draw_facts() {
   const id = element("span", "mono", run.id.slice(0, 8));
   id.title = run.id;
   const told = [
-    plural(TEST_COUNT - COUNTS.skipped, "test"),
+    plural(TEST_COUNT, "test"),
     duration(run.seconds),
     run.status === "completed" ? "" : run.status,
     run.exit ? `exit code ${run.exit}` : "",

@@ -1,8 +1,6 @@
-// What is told of the run where no test is chosen: failures first, then what was tried again, the
-// slowest tests, and binaries.
+// What is told of the run where no test is chosen: failures by their causes first, then what was
+// tried again, the slowest tests, and binaries.
 
-const FAILURES = TESTS.filter((test) => test.end === "failed" || test.end === "unfinished")
-  .sort(ORDERS.failures);
 const MOST_ITEMS = 50;
 
 function first_line(text) {
@@ -39,13 +37,53 @@ function item(test, { reason = "", bar = false } = {}) {
   return element("li", "", button);
 }
 
-function part(title, tests, options) {
-  if (!tests.length) return "";
+function items_of(tests, options) {
   const shown_items = tests.slice(0, MOST_ITEMS).map((test) => item(test, options(test)));
   const items = element("ul", "items", ...shown_items);
   const left = tests.length - MOST_ITEMS;
   if (left > 0) items.append(element("li", "more", `${whole(left)} more are in the list`));
-  return element("section", "", element("h3", "", title), items);
+  return items;
+}
+
+function part(title, tests, options) {
+  if (!tests.length) return "";
+  return element("section", "", element("h3", "", title), items_of(tests, options));
+}
+
+const SHARED = "One of these tests crashed the process, or several did. The others ran beside it.";
+
+// A cause of several tests is closed where there are many, so that all causes are in sight.
+function cause_of_several({ title, tests, is_shared }) {
+  const count = element("b", "", whole(tests.length));
+  const told = titled(element("span", "name", safe_nodes(title)), title);
+  const summary = element("summary", "", state_mark(tests[0].end), count, " ", told);
+  const group = element("details", "cause", summary);
+  if (is_shared) group.append(element("p", "beside", SHARED));
+  group.append(items_of(tests, (test) => ({ reason: why(test) })));
+  group.open = FAILURES.length <= 12;
+  return group;
+}
+
+// The failures in a state: those with a cause of their own are a list, the others a group each.
+function failures(words, is_wanted) {
+  const causes = CAUSES.map((cause) => ({ ...cause, tests: cause.tests.filter(is_wanted) }))
+    .filter(({ tests }) => tests.length);
+  const count = causes.reduce((sum, { tests }) => sum + tests.length, 0);
+  if (!count) return "";
+  const several = causes.filter(({ tests }) => tests.length > 1).map(cause_of_several);
+  const alone = causes.filter(({ tests }) => tests.length === 1).flatMap(({ tests }) => tests);
+  const told = several.length ? `, ${plural(causes.length, "cause")}` : "";
+  const list = alone.length ? items_of(alone, (test) => ({ reason: why(test) })) : "";
+  return element("section", "", element("h3", "", words(count) + told), ...several, list);
+}
+
+function all_failures() {
+  const is_test = (state) => (test) => test.state === state;
+  return [
+    failures((count) => `${whole(count)} failed`, is_test("failed")),
+    failures((count) => `${whole(count)} unfinished`, is_test("unfinished")),
+    failures((count) => `${plural(count, "setup script")} failed`, is_test("script")),
+  ];
 }
 
 function line_of_binary(name, sum, states) {
@@ -128,8 +166,8 @@ function draw_run() {
   const with_reason = (test) => ({ reason: why(test) });
   details.replaceChildren(
     ...warnings,
-    part("Failures", FAILURES, with_reason),
-    part("Passed when tried again", flaky, with_reason),
+    ...all_failures(),
+    part(`${whole(flaky.length)} flaky, passed when tried again`, flaky, with_reason),
     element("div", "pair",
       part("Slowest tests", slowest, () => ({ bar: true })),
       element("div", "", table_of_binaries(), about_run())),
