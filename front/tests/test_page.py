@@ -17,7 +17,7 @@ from rezovamy_runs.faults.fault import Fault
 from rezovamy_runs.page import document
 from rezovamy_runs.page.data import PageAttempt, Outputs, PageData, State, PageTest, cut_middle
 from tests import EXAMPLES
-from tests.made import bundle_of, exit_code, finished, session_of, started, status
+from tests.made import bundle_of, event, exit_code, finished, session_of, started, status
 from tests.page_sessions import NASTY, nasty_session
 
 DATA = re.compile(r'<script type="application/json" id="data">(.*?)</script>')
@@ -79,6 +79,19 @@ def test_a_pause_cuts_an_attempt(page: Page) -> None:
     (failing,) = page.tests["a</script>"]["attempts"]
     slices = [1_000_000, 3_000_000, 5_000_000, 8_000_000]
     assert (failing["slot"], failing["slices"], failing["seconds"]) == (0, slices, 5)
+
+
+def test_a_time_is_without_the_pause_whatever_was_recorded(tmp_path: pathlib.Path) -> None:
+    events = [
+        started(0, "paused", 0),
+        event("run-paused", 1),
+        event("run-continued", 4),
+        finished(7, "paused", status(0, 7)),
+        started(7, "whole", 0),
+        finished(9, "whole", status(7, 1.5)),
+    ]
+    tests = page_of(session_of(events), tmp_path).tests
+    assert [tests[name]["attempts"][0]["seconds"] for name in ("paused", "whole")] == [4, 1.5]
 
 
 def test_an_attempt_without_an_end_has_no_length(page: Page) -> None:

@@ -218,10 +218,17 @@ def page_attempt(
     if slot is not None:
         made["slot"] = slot
     if has_ended:
-        made["seconds"] = round(attempt.seconds, 9)
+        made["seconds"] = round(active_seconds(attempt, span), 9)
     if span:
         add_times(made, span, drawing)
     return made
+
+
+def active_seconds(attempt: Attempt, span: Span | None) -> float:
+    """Return how long an attempt ran, without the pauses that cut it."""
+    if span is None or len(span.slices) < 2:
+        return attempt.seconds
+    return sum(end - begin for begin, end in span.slices) / 10**6
 
 
 def add_times(made: PageAttempt, span: Span, drawing: Drawing) -> None:

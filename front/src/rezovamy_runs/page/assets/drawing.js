@@ -314,7 +314,7 @@ function tick_label(time, step) {
   }
   const [times, unit] = unit_of_ticks(step, time);
   const digits = Math.max(0, Math.ceil(-Math.log10(step * times) - 1e-9));
-  return `${(time * times).toFixed(digits)} ${unit}`;
+  return `${(time * times).toFixed(digits)}${unit}`;
 }
 
 // How often the unit of a tick stands in a second, and what it is called.
