@@ -161,6 +161,14 @@ class Browser:
             place: Json = {"x": x, "y": y, "button": button, "clickCount": 1}
             self.ask("Input.dispatchMouseEvent", type=kind, **place)
 
+    def drag(self, begin: tuple[float, float], end: tuple[float, float], shift: bool) -> None:
+        """Drag with the mouse from a place to another one, with the shift key or without it."""
+        steps = [("mousePressed", begin, 0), ("mouseMoved", end, 1), ("mouseReleased", end, 1)]
+        for kind, (x, y), buttons in steps:
+            place: Json = {"x": x, "y": y, "button": "left", "buttons": buttons, "clickCount": 1}
+            modifiers = 8 if shift else 0
+            self.ask("Input.dispatchMouseEvent", type=kind, modifiers=modifiers, **place)
+
     def complaints(self) -> list[str]:
         """Return what the page wrote to its console, and exceptions that nobody caught."""
         found = []

@@ -26,6 +26,7 @@ SCRIPTS = (
     "list",
     "timeline",
     "drawing",
+    "selection",
     "pointing",
     "address",
     "details",

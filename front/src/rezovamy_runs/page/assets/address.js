@@ -67,6 +67,7 @@ function follow_filter(wanted) {
 
 function follow_stretch(wanted) {
   const from = Number.parseFloat(wanted.get("from")), to = Number.parseFloat(wanted.get("to"));
+  select(from < to ? { from: Math.max(0, from), to: Math.min(WHOLE, to) } : null);
   if (from < to) look(from, to);
 }
 

@@ -58,6 +58,7 @@ function escape() {
     refresh_list();
   } else if (details.contains(document.activeElement) && chosen && !is_narrow()) list.focus();
   else if (chosen) back_to_run();
+  else select(null);
 }
 
 function back_to_run() {
