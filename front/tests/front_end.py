@@ -12,6 +12,7 @@ import time
 from collections.abc import Callable
 from typing import IO
 
+from rezovamy_runs.store.ci_variables import SERVICES
 from tests import FRONT, made
 
 LONGEST_WAIT = 300
@@ -128,5 +129,6 @@ def hear_interrupts() -> None:
 
 
 def front_end_in(folder: pathlib.Path) -> FrontEnd:
-    """Return a front end with a folder of its own."""
-    return FrontEnd(folder, {**os.environ, "REZOVAMY_RUNS": str(folder / "runs"), "TZ": "UTC"})
+    """Return a front end with a folder of its own, which is outside of a CI."""
+    outside = {name: value for name, value in os.environ.items() if name not in SERVICES}
+    return FrontEnd(folder, {**outside, "REZOVAMY_RUNS": str(folder / "runs"), "TZ": "UTC"})

@@ -9,6 +9,7 @@ import subprocess
 
 import pytest
 
+from rezovamy_runs.bundles import bundle_file
 from tests import EXAMPLES, made
 from tests.fake_programs import FakePrograms
 from tests.front_end import FrontEnd, front_end_in
@@ -318,7 +319,8 @@ def test_what_the_program_names(tmp_path: pathlib.Path, program: pathlib.Path) -
     front_end = front_end_in(tmp_path)
     front_end.environment["REZOVAMY"] = str(program)
     assert front_end.run("test", "--from", str(LINES)).returncode == 101
-    with open(next(front_end.runs.iterdir()), "rb") as bundle:
+    recorded = next(front_end.runs.glob("*.bundle.gz"))
+    with bundle_file.plain(recorded) as bundle:
         done = subprocess.run([program, "rerun"], stdin=bundle, capture_output=True, check=True)
     info, *lines = done.stdout.decode().splitlines()
     suites = [suite["outstanding"] for suite in json.loads(info)["test-suites"]]

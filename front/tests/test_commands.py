@@ -335,6 +335,6 @@ def test_a_recording_that_is_broken_off_leaves_nothing(front_end: FrontEnd) -> N
         return bool(beside)
 
     done = front_end.interrupt("test", "--from", str(LINES), once=is_recording)
-    assert len(beside) == 1
+    assert len(beside) == 2 and f"{beside}".count(".json'") == 1
     assert (done.returncode, done.stderr.splitlines()[-1]) == (130, f"{BEGIN}broken off")
     assert os.listdir(front_end.runs) == []

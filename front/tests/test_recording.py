@@ -56,7 +56,7 @@ def test_lines_that_are_there(front_end: FrontEnd) -> None:
     assert f"{front_end.runs}/" in done.stdout
     (run,) = listed(front_end)
     assert (run["profile"], run["passed"], run["failed"], run["skipped"]) == ("ci", 5, 2, 1)
-    assert os.listdir(front_end.runs) == [f"{run['id']}.bundle"]
+    assert sorted(os.listdir(front_end.runs)) == [f"{run['id']}.bundle.gz", f"{run['id']}.json"]
     trace = json.loads(front_end.output("trace", "--group-by", "slot"))
     assert trace["otherData"]["run_id"] == run["id"]
 
@@ -127,7 +127,7 @@ def test_a_run_that_is_broken_off(front_end: FrontEnd, number: signal.Signals, s
         assert one.wait(60) == status
     run, *_ = listed(front_end)
     assert (run["status"], run["exit-code"]) == ("cancelled", status)
-    assert f"{run['id']}.bundle" in os.listdir(front_end.runs)
+    assert f"{run['id']}.bundle.gz" in os.listdir(front_end.runs)
 
 
 def test_a_recording_that_fails_leaves_nothing(front_end: FrontEnd) -> None:

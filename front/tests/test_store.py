@@ -2,12 +2,15 @@
 
 from __future__ import annotations
 
+import errno
+import hashlib
 import os
 import pathlib
 import time
 
 import pytest
 
+from rezovamy_runs.bundles import bundle_file
 from rezovamy_runs.commands import junit as junit_command
 from rezovamy_runs.faults.fault import Fault
 from rezovamy_runs.store import location, run_folder
@@ -41,6 +44,11 @@ def add(store: Store, run_id: str, at: int = 0) -> None:
         aside.write_bytes(made.bundle(made.run_started(at), at=at, run_id=run_id))
 
 
+def content(store: Store, run_id: str) -> bytes:
+    """Return the bytes of a run's bundle."""
+    return bundle_file.plain_bytes(store.path_of(run_id).read_bytes())
+
+
 def names(store: Store) -> list[str]:
     """Return what stands in the folder."""
     return sorted(os.listdir(store.folder))
@@ -54,7 +62,7 @@ def test_a_run_is_written_aside_and_renamed(store: Store) -> None:
         aside.write_bytes(b"one")
         assert store.ids() == []
         assert aside.name.startswith(".")
-    assert names(store) == [f"{FIRST}.bundle"]
+    assert names(store) == [f"{FIRST}.bundle.gz"]
 
 
 @pytest.mark.parametrize("fault", [Fault("no"), KeyboardInterrupt(), OSError("full")])
@@ -64,7 +72,7 @@ def test_after_a_fault_the_folder_is_as_it_was(store: Store, fault: BaseExceptio
     with pytest.raises(type(fault)), store.adding(FIRST) as aside:
         aside.write_bytes(b"half")
         raise fault
-    assert names(store) == [f"{FIRST}.bundle"]
+    assert names(store) == [f"{FIRST}.bundle.gz"]
     assert store.path_of(FIRST).read_bytes() == before
 
 
@@ -73,8 +81,28 @@ def test_two_at_once_do_not_meet(store: Store) -> None:
         assert one != other
         one.write_bytes(b"one")
         other.write_bytes(b"other")
-    assert store.path_of(FIRST).read_bytes() == b"one"
+    assert content(store, FIRST) == b"one"
+    assert names(store) == [f"{FIRST}.bundle.gz"]
+
+
+def test_a_bundle_is_kept_as_it_is_where_there_is_no_room_to_compress_it(
+    store: Store, monkeypatch: pytest.MonkeyPatch
+) -> None:
+    def fail(_path: pathlib.Path, target: pathlib.Path) -> None:
+        target.write_bytes(b"half")
+        raise OSError(errno.ENOSPC, "No space left on device")
+
+    with store.adding(FIRST) as aside:
+        aside.write_bytes(b"one")
+    with monkeypatch.context() as patched, store.adding(FIRST) as aside:
+        patched.setattr(bundle_file, "compress", fail)
+        aside.write_bytes(b"other")
     assert names(store) == [f"{FIRST}.bundle"]
+    assert store.path_of(FIRST).read_bytes() == b"other"
+    with store.adding(FIRST) as aside:
+        aside.write_bytes(b"third")
+    assert names(store) == [f"{FIRST}.bundle.gz"]
+    assert content(store, FIRST) == b"third"
 
 
 def test_a_bundle_can_be_read_as_the_umask_says(store: Store) -> None:
@@ -189,15 +217,16 @@ def folder(tmp_path: pathlib.Path, monkeypatch: pytest.MonkeyPatch) -> pathlib.P
     """The folder in which the process is, of which cargo knows nothing."""
     folder = tmp_path.resolve()
     monkeypatch.chdir(folder)
-    monkeypatch.setattr(location, "target_of_cargo", lambda manifest=None: None)
+    monkeypatch.setattr(location, "of_cargo", lambda manifest=None: None)
     monkeypatch.delenv("REZOVAMY_RUNS", raising=False)
+    monkeypatch.setenv("XDG_STATE_HOME", str(folder / "state"))
     return folder
 
 
 @pytest.mark.usefixtures("folder")
 def test_the_environment_says_it(monkeypatch: pytest.MonkeyPatch) -> None:
     monkeypatch.setenv("REZOVAMY_RUNS", "/some/where")
-    assert location.runs_folder() == pathlib.Path("/some/where")
+    assert run_folder.here().folder == pathlib.Path("/some/where")
 
 
 @pytest.mark.parametrize(
@@ -232,32 +261,66 @@ def test_without_cargo_it_is_that_of_the_workspace_above(
     (folder / "Cargo.toml").write_text('[workspace]\nmembers = ["member"]\n')
     (folder / "member/Cargo.toml").write_text("[package]\n")
     monkeypatch.chdir(folder / "member/src")
-    assert location.runs_folder() == folder / "target/rezovamy-runs"
+    assert run_folder.here().workspace_root() == folder
+    assert run_folder.here().junit_folder() == folder / "target/rezovamy-junit"
     (folder / "Cargo.toml").write_text("[package]\n")
-    assert location.runs_folder() == folder / "member/target/rezovamy-runs"
-    named = location.runs_folder(str(folder / "Cargo.toml"))
-    assert named == folder / "target/rezovamy-runs"
+    assert run_folder.here().workspace_root() == folder / "member"
+    assert run_folder.here(str(folder / "Cargo.toml")).workspace_root() == folder
+
+
+def test_the_runs_of_a_workspace_have_a_folder_by_its_name_and_path(
+    folder: pathlib.Path, monkeypatch: pytest.MonkeyPatch
+) -> None:
+    root = folder / "my shop"
+    root.mkdir()
+    (root / "Cargo.toml").write_text("[package]\n")
+    (folder / "link").symlink_to(root)
+    digest = hashlib.sha256(os.fsencode(root)).hexdigest()[:10]
+    for place in (root, folder / "link"):
+        monkeypatch.chdir(place)
+        assert run_folder.here().folder == folder / f"state/rezovamy/my_shop-{digest}"
+    for unset in ("", "relative"):
+        monkeypatch.setenv("XDG_STATE_HOME", unset)
+        monkeypatch.setenv("HOME", "/home/me")
+        made_of_home = pathlib.Path(f"/home/me/.local/state/rezovamy/my_shop-{digest}")
+        assert run_folder.here().folder == made_of_home
+
+
+def test_runs_in_the_target_directory_are_named_once(
+    folder: pathlib.Path, capsys: pytest.CaptureFixture[str]
+) -> None:
+    (folder / "Cargo.toml").write_text("[package]\n")
+    assert run_folder.here().ids() == []
+    assert capsys.readouterr().err == ""
+    add(Store(folder / "target/rezovamy-runs"), FIRST)
+    assert run_folder.here().ids() == []
+    assert capsys.readouterr().err == (
+        "rezovamy-runs: 1 run of an earlier version is in the target directory: "
+        f"`rezovamy-runs import {folder}/target/rezovamy-runs` takes it over\n"
+    )
+    assert run_folder.here().ids() == []
+    assert capsys.readouterr().err == ""
 
 
 def test_a_target_directory_that_is_made_is_marked_as_cargo_does(
     folder: pathlib.Path, monkeypatch: pytest.MonkeyPatch
 ) -> None:
     (folder / "Cargo.toml").write_text("[package]\n")
-    run_folder.here().prepare()
+    run_folder.here().prepare_junit()
     tag = folder / "target/CACHEDIR.TAG"
     assert tag.read_text().startswith("Signature: 8a477f597d28d172789f06886806bc55\n")
     tag.unlink()
-    run_folder.here().prepare()
+    run_folder.here().prepare_junit()
     assert not tag.exists()
     monkeypatch.setenv("REZOVAMY_RUNS", "new/runs")
-    run_folder.here().prepare()
-    assert os.listdir("new") == ["runs"]
+    run_folder.here().prepare_junit()
+    assert not pathlib.Path("new").exists()
 
 
 @pytest.mark.usefixtures("folder")
 def test_outside_of_workspaces_it_is_a_fault() -> None:
     with pytest.raises(Fault, match="REZOVAMY_RUNS"):
-        location.runs_folder()
+        run_folder.here().folder
 
 
 @pytest.mark.usefixtures("folder")

@@ -14,7 +14,7 @@ from rezovamy_runs.answers import PROGRAM, WRONG_WORDS, answer
 from rezovamy_runs.faults.fault import Fault
 
 if TYPE_CHECKING:
-    from rezovamy_runs.commands import again, compare, explain, flaky, junit
+    from rezovamy_runs.commands import again, compare, explain, flaky, import_runs, junit
     from rezovamy_runs.commands import list as list_command
     from rezovamy_runs.commands import page, prune, show, test, trace
 
@@ -30,9 +30,12 @@ COMMANDS = (
     "junit",
     "compare",
     "flaky",
+    "import",
     "prune",
     "explain",
 )
+# The modules of commands whose names are words of Python.
+MODULES = {"import": "import_runs"}
 # A run is many values that go all at once, and to look for circles among them takes longer than
 # to read them.
 VALUES_BEFORE_A_LOOK = 1_000_000
@@ -63,7 +66,7 @@ class Parser(argparse.ArgumentParser):
 
 def module_of(command: str) -> Command:
     """Return a command by its name; no other one is imported."""
-    return importlib.import_module(f"rezovamy_runs.commands.{command}")
+    return importlib.import_module(f"rezovamy_runs.commands.{MODULES.get(command, command)}")
 
 
 def parser(names: Sequence[str] = COMMANDS) -> Parser:
@@ -92,7 +95,7 @@ def run(arguments: list[str]) -> int:
     """Do what the words ask for, and return the status."""
     own, rest = split_rest(arguments)
     words = parser(own[:1] if own and own[0] in COMMANDS else COMMANDS).parse_args(own)
-    words.rest = rest
+    words.rest, words.command_line = rest, [PROGRAM, *arguments]
     if words.command is None:
         raise Fault(
             f"a command is wanted, one of {', '.join(COMMANDS)}; "
@@ -128,6 +131,7 @@ if TYPE_CHECKING:
         junit,
         compare,
         flaky,
+        import_runs,
         prune,
         explain,
     )

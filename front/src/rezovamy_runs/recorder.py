@@ -10,7 +10,7 @@ import subprocess
 from collections.abc import Sequence
 from typing import IO, Protocol
 
-from rezovamy_runs.bundles import bundle
+from rezovamy_runs.bundles import bundle, bundle_file
 from rezovamy_runs.faults import file_kinds
 from rezovamy_runs.faults.causes import Call
 from rezovamy_runs.faults.explain import explain_or_show
@@ -109,8 +109,8 @@ def run_on_bundle(
     words: Sequence[Word], path: pathlib.Path, stdout: IO[bytes] | int = subprocess.PIPE
 ) -> bytes:
     """Run a command that reads a bundle on that at a path, and return what it prints."""
-    with bundle.opened(path) as opened:
-        return run([*words, *limits(path.stat().st_size)], stdin=opened, stdout=stdout)
+    with bundle.plain(path) as plain:
+        return run([*words, *limits(bundle_file.size_of(plain))], stdin=plain, stdout=stdout)
 
 
 def begin_of(stream: IO[bytes] | None) -> bytes | None:

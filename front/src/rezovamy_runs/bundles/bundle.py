@@ -2,12 +2,14 @@
 
 from __future__ import annotations
 
+import contextlib
 import json
-import os
 import pathlib
 from collections.abc import Callable, Iterator
-from typing import BinaryIO, TypeVar
+from typing import IO, TypeVar
 
+from rezovamy_runs.bundles import bundle_file
+from rezovamy_runs.bundles.bundle_file import PathLike, Source
 from rezovamy_runs.bundles.container import Entries, Place, Unreadable
 from rezovamy_runs.bundles.events import Event, RunFinished, RunStarted, event_of, seconds
 from rezovamy_runs.bundles.manifest import Manifest, manifest_of
@@ -20,18 +22,16 @@ MANIFEST, LOG, STORE = b"manifest.json", b"run.log.zst", b"store.zip"
 # Enough for the last line of most logs; more is read where it is longer.
 TAIL = 1 << 16
 
-PathLike = str | os.PathLike[str]
 Answer = TypeVar("Answer")
 
 
 class Bundle:
     """An open bundle."""
 
-    def __init__(self, path: pathlib.Path, file: BinaryIO) -> None:
-        descriptor = file.fileno()
+    def __init__(self, path: pathlib.Path, source: Source) -> None:
         self.path = path
-        self.size = os.fstat(descriptor).st_size
-        self.entries = Entries(lambda at, size: os.pread(descriptor, size, at), 0, self.size)
+        self.size = source.stored
+        self.entries = Entries(source.read, 0, source.size)
         self.manifest: Manifest = manifest_of(self.entries.content(MANIFEST))
 
     def lines(self) -> Iterator[Event]:
@@ -124,11 +124,6 @@ def leave_out(_name: str) -> bytes | None:
     return None
 
 
-def opened(path: PathLike) -> BinaryIO:
-    """Open the file of a bundle. A pipe in its place isn't waited for."""
-    return open(path, "rb", opener=lambda name, flags: os.open(name, flags | os.O_NONBLOCK))
-
-
 def counts_of(manifest: Manifest, last: Event | None) -> Counts | None:
     """Return the counts of a run that ended, None where manifest or run's end don't tell them."""
     if manifest.status not in (Status.COMPLETED, Status.CANCELLED):
@@ -142,9 +137,24 @@ def counts_of(manifest: Manifest, last: Event | None) -> Counts | None:
 
 def read(path: PathLike, ask: Callable[[Bundle], Answer]) -> Answer:
     """Return what is asked of the bundle at a path; a file that is none is a fault."""
+    with telling_faults(path), bundle_file.source(path) as source:
+        return ask(Bundle(pathlib.Path(path), source))
+
+
+@contextlib.contextmanager
+def plain(path: PathLike) -> Iterator[IO[bytes]]:
+    """Lend a file with the bytes of the bundle at a path; one that can't be read is a fault."""
+    with contextlib.ExitStack() as stack:
+        with telling_faults(path):
+            file = stack.enter_context(bundle_file.plain(path))
+        yield file
+
+
+@contextlib.contextmanager
+def telling_faults(path: PathLike) -> Iterator[None]:
+    """Let what fails while a bundle is read be a fault that says what to do."""
     try:
-        with opened(path) as file:
-            return ask(Bundle(pathlib.Path(path), file))
+        yield
     except FileNotFoundError:
         raise
     except OSError as error:
@@ -163,7 +173,7 @@ def remedy(path: PathLike) -> str:
 
     Where it isn't called one, another one may be meant.
     """
-    if str(path).endswith(".bundle"):
+    if bundle_file.is_named_so(str(path)):
         return "record the run again, or remove the file"
     return "name a bundle"
 

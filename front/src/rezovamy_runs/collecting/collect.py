@@ -5,6 +5,7 @@ from __future__ import annotations
 import dataclasses
 import os
 import sys
+import time
 from collections.abc import Iterable, Iterator, Sequence
 
 from rezovamy_runs.collecting import cargo_call, test_words
@@ -51,11 +52,13 @@ class BuildFailed(Exception):
 class Collector:
     """Asks cargo and the binaries, as jobs of a loop.
 
-    With `asks_for_all`, each binary is also asked for the tests that the words don't choose.
+    With `asks_for_all`, each binary is also asked for the tests that the words don't choose. Cargo
+    took `build_seconds` in all to build.
     """
 
     loop: Loop
     asks_for_all: bool = False
+    build_seconds: float = 0.0
     _has_log_file: bool | None = None
 
     def collect(self, words: Sequence[str]) -> list[Listed]:
@@ -73,7 +76,9 @@ class Collector:
     def _build(self, call: Sequence[str], records: Records) -> list[Artifact]:
         """Let cargo build, and return what it says of the files that it made."""
         environment = {**own_environment(), RUSTDOC_VARIABLE: os.fsencode(records.rustdoc)}
+        begin = time.monotonic()
         ended, printed = self._answer(Program(tuple(call), os.getcwd(), environment))
+        self.build_seconds += time.monotonic() - begin
         artifacts, others = [], []
         for line in printed.decode("utf-8", "surrogateescape").splitlines(keepends=True):
             message = messages.parse(line)

@@ -9,10 +9,10 @@ from collections.abc import Iterable
 
 from rezovamy_runs import formatting
 from rezovamy_runs import recorder
-from rezovamy_runs.bundles import bundle
+from rezovamy_runs.bundles import bundle, bundle_file
 from rezovamy_runs.collecting.cargo_line import manifest_of
 from rezovamy_runs.command_line import add_run, options_of, say
-from rezovamy_runs.commands import run_options
+from rezovamy_runs.commands import note_options, run_options
 from rezovamy_runs.commands import test as test_command
 from rezovamy_runs.faults.fault import Fault
 from rezovamy_runs.model import Summary
@@ -49,6 +49,7 @@ def add_options(parser: argparse.ArgumentParser) -> None:
     add_run(parser)
     test_command.add_outputs(parser)
     run_options.add_options(parser)
+    note_options.add_options(parser)
 
 
 def run(words: argparse.Namespace) -> int:
@@ -65,7 +66,8 @@ def run(words: argparse.Namespace) -> int:
     if not calls:
         say_each(nameless)
         return nothing_to_run(plan, before, bool(nameless))
-    outputs = test_command.Outputs(runs, options.page, options.junit)
+    notes = note_options.notes_again(words, runs, before)
+    outputs = test_command.Outputs(runs, options.page, options.junit, notes)
     plan.is_same_build = missing_tests.is_same_build(first, options.rest)
     given = ["--", *options.rest] if options.rest else []
     cli_args = ["rezovamy-runs", "again", before.id, *given]
@@ -113,7 +115,7 @@ def root_bundle(plan: Plan, before: Summary) -> pathlib.Path:
     root = plan.info.get("root-info")
     if not before.parent or not isinstance(root, dict):
         return before.bundle
-    return before.bundle.with_name(f"{root['run-id']}{run_folder.ENDING}")
+    return bundle_file.in_folder(before.bundle.parent, str(root["run-id"]))
 
 
 def never_started(path: pathlib.Path) -> list[str]:

@@ -7,6 +7,7 @@ import dataclasses
 import pathlib
 import sys
 
+from rezovamy_runs.bundles import bundle_file
 from rezovamy_runs.command_line import add_run, options_of, print_out, whole
 from rezovamy_runs.faults.fault import Fault
 from rezovamy_runs.page import document
@@ -68,7 +69,7 @@ def print_page(text: str) -> None:
 
 def beside(path: pathlib.Path) -> pathlib.Path:
     """Return where the page of a bundle goes if no other file is named."""
-    return path.with_suffix(".html")
+    return bundle_file.beside(path, ".html")
 
 
 def written(text: str, target: pathlib.Path) -> pathlib.Path:

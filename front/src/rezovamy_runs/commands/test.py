@@ -15,18 +15,18 @@ from rezovamy_runs import recorder
 from rezovamy_runs import terminal
 from rezovamy_runs.answers import answer
 from rezovamy_runs.bundles import bundle
-from rezovamy_runs.collecting import cargo_call
+from rezovamy_runs.collecting import cargo_call, chosen_tests
 from rezovamy_runs.collecting.collect import BuildFailed
 from rezovamy_runs.collecting.cargo_line import manifest_of
 from rezovamy_runs.command_line import input_stream, options_of, print_out, whole
 from rezovamy_runs.commands import junit as junit_command
 from rezovamy_runs.commands import page as page_command
-from rezovamy_runs.commands import run_options
+from rezovamy_runs.commands import note_options, run_options
 from rezovamy_runs.faults.fault import Fault
 from rezovamy_runs.page import document
 from rezovamy_runs.processes import guard
 from rezovamy_runs.report.run_text import Printer
-from rezovamy_runs.runner import cargo_words
+from rezovamy_runs.runner import cargo_words, run_facts
 from rezovamy_runs.runner.cargo_runs import PAUSE, CargoRuns
 from rezovamy_runs.runner.line_stream import LineStream
 from rezovamy_runs.runner.process_run import ProcessRun, Recordable
@@ -34,8 +34,11 @@ from rezovamy_runs.runner.progress import Progress
 from rezovamy_runs.runner.rerun_plan import Plan
 from rezovamy_runs.runner.session_builder import Session, SessionBuilder
 from rezovamy_runs.store import run_folder
+from rezovamy_runs.store.notes import RunNotes
+from rezovamy_runs.store.run_folder import Store
 from rezovamy_runs.streams.clock import Clock, arrival_clock, measured_clock
 from rezovamy_runs.streams.run_state import Console
+from rezovamy_runs.streams.session_writer import Suites
 from rezovamy_runs.streams.texts import without_surrogates
 
 SUMMARY = "run `cargo test` with the words after --, and record the run"
@@ -84,6 +87,8 @@ def add_options(parser: argparse.ArgumentParser) -> None:
     )
     add_outputs(parser)
     run_options.add_options(parser)
+    note_options.add_options(parser)
+    note_options.add_shard(parser)
 
 
 def add_outputs(parser: argparse.ArgumentParser) -> None:
@@ -111,22 +116,30 @@ def run(words: argparse.Namespace) -> int:
         )
     recorder.find()
     runs = run_folder.here(manifest_of(options.rest))
-    outputs = Outputs(runs, options.page, options.junit)
     cli_args = ["cargo", "test", *options.rest]
     if options.source is not None:
         run_options.refuse_with_lines(words)
+        outputs = outputs_of(words, runs, False)
         outputs.prepare()
         return outputs.keep(read_lines(options, options.source))
     if options.shared:
         run_options.refuse_with_shared(words)
+        note_options.refuse_shard(words)
+        outputs = outputs_of(words, runs, False)
         outputs.prepare()
         commands = [cargo_words.cargo_words(options.rest)]
         return outputs.keep(run_cargo(commands, options.profile, cli_args))
     cargo_call.read(options.rest)
-    process_run = ProcessRun(
-        [options.rest], run_options.options_of_run(words), options.profile, cli_args
-    )
+    outputs = outputs_of(words, runs, True)
+    of_run = dataclasses.replace(run_options.options_of_run(words), shard=outputs.notes.shard)
+    process_run = ProcessRun([options.rest], of_run, options.profile, cli_args)
     return guarded_status(lambda: outputs.run(process_run))
+
+
+def outputs_of(words: argparse.Namespace, runs: Store, splits: bool) -> Outputs:
+    """Return where the run goes; `splits` tells that a shard of its tests may be run."""
+    notes = note_options.notes(words, runs, splits)
+    return Outputs(runs, words.page, words.junit, notes, chosen_tests.chooses(words.rest))
 
 
 def guarded_status(work: Callable[[], int]) -> int:
@@ -150,6 +163,9 @@ class Outputs:
     runs: run_folder.Store
     page: bool
     junit: bool
+    notes: RunNotes
+    # Whether words of cargo choose some of the tests.
+    is_chosen: bool = False
 
     def prepare(self) -> None:
         """Make the folder ready for a run that begins."""
@@ -159,7 +175,9 @@ class Outputs:
 
     def keep(self, session: Session) -> int:
         """Record a session, print what came of it, and return the status of its tests."""
-        return self._keep(session.status, lambda: recorder.record(self.runs, session))
+        notes = self._notes_of(session.suites)
+        with self.runs.noting(session.run_id, notes):
+            return self._keep(session.status, lambda: recorder.record(self.runs, session))
 
     def run(self, process_run: ProcessRun, judge: Judge = status_of) -> int:
         """Run tests as processes, record the run, and return what `judge` says of it.
@@ -176,8 +194,16 @@ class Outputs:
             with made.session() as stream:
                 return recorder.record_stream(self.runs, made.run_id, stream)
 
-        self._keep(made.status, record)
+        notes = dataclasses.replace(self._notes_of(made.suites), build_seconds=made.build_seconds)
+        with self.runs.noting(made.run_id, notes):
+            self._keep(made.status, record)
         return judge(made)
+
+    def _notes_of(self, suites: Suites) -> RunNotes:
+        """Return what is known of a run with these tests."""
+        tests = sum(map(len, suites.values()))
+        part = run_facts.part_of(self.notes, tests, self.is_chosen)
+        return dataclasses.replace(self.notes, part=part)
 
     def _keep(self, status: int, record: Callable[[], pathlib.Path]) -> int:
         """Record a run that ended with a status, and print what came of it."""
@@ -199,7 +225,7 @@ class Outputs:
             page = page_command.written(document.page_of(path), page_command.beside(path))
             print_out(f"{page}\n")
         if self.junit:
-            junit_command.write(path, junit_command.beside(self.runs))
+            junit_command.write_beside(path, self.runs)
 
 
 class Following:

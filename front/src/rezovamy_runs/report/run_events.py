@@ -11,8 +11,9 @@ import json
 from collections.abc import Mapping
 from typing import NamedTuple
 
+from rezovamy_runs.bundles import bundle_file
 from rezovamy_runs.bundles.bundle import LOG
-from rezovamy_runs.bundles.container import MAGIC, entry
+from rezovamy_runs.bundles.container import MAGIC, Unreadable, entry
 from rezovamy_runs.bundles.events import stress_of, test_of, unseen_of
 from rezovamy_runs.json_values import Members, WrongMember, members_of
 from rezovamy_runs.report.run_report import Instant, instant_of
@@ -122,11 +123,11 @@ def runs_of(data: bytes) -> list[RunEvents]:
     """Return the runs that ended in a session or a bundle, in the order of its reports."""
     runs, reader = [], RunReader()
     try:
-        for line in log_lines(data):
+        for line in log_lines(bundle_file.plain_bytes(data)):
             run = reader.read(members_of(json.loads(line))) if line.strip() else None
             if run is not None:
                 runs.append(run)
                 reader = RunReader()
-    except (RecursionError, ValueError) as error:
+    except (RecursionError, Unreadable, ValueError) as error:
         raise NoEvents(f"no session and no bundle: {error}") from error
     return runs

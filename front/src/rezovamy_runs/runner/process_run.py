@@ -9,7 +9,7 @@ from collections.abc import Iterator, Sequence
 from contextlib import contextmanager
 from typing import IO
 
-from rezovamy_runs.collecting import cargo_call, test_words
+from rezovamy_runs.collecting import cargo_call, sharding, test_words
 from rezovamy_runs.collecting.collect import Collector, Listed, jobs_of
 from rezovamy_runs.collecting.records import own_environment
 from rezovamy_runs.faults.fault import Fault
@@ -23,6 +23,7 @@ from rezovamy_runs.runner.process_session import ProcessSession, RunName
 from rezovamy_runs.runner.rerun_plan import Plan
 from rezovamy_runs.runner.session_builder import members_of_rerun
 from rezovamy_runs.runner.session_file import SessionFile
+from rezovamy_runs.store.notes import Shard
 from rezovamy_runs.streams.session_json import HEAD
 from rezovamy_runs.streams.session_writer import NEXTEST_VERSION, Suites, length, moment
 
@@ -39,6 +40,8 @@ class RunOptions:
     test_threads: int | None = None
     fail_fast: bool = False
     scripts: tuple[tuple[str, str], ...] = ()
+    # The shard whose tests alone run, None if all do.
+    shard: Shard | None = None
 
     def settings(self, words: Sequence[str]) -> Settings:
         """Return the settings of a run with these words of `cargo test`."""
@@ -70,12 +73,13 @@ def slots_of(words: Sequence[str]) -> int:
 
 @dataclasses.dataclass(frozen=True)
 class Recordable:
-    """A run that ended: its session, its status, and its tests by binary."""
+    """A run that ended: its session, its status, its tests by binary, and how long it was built."""
 
     head: JsonObject
     events: SessionFile
     status: int
     suites: Suites
+    build_seconds: float
 
     @property
     def run_id(self) -> str:
@@ -107,7 +111,9 @@ class ProcessRun:
         """Collect the tests, run them, and return what is to be recorded."""
         with Loop() as loop:
             collector = Collector(loop, asks_for_all=self._plan is not None)
-            listed = [one for call in self._calls for one in collector.collect(call)]
+            collected = [one for call in self._calls for one in collector.collect(call)]
+            shard = self._options.shard
+            listed = [sharding.of_shard(one, shard) for one in collected] if shard else collected
             if not listed:
                 nothing = "no test ran, so nothing is recorded"
                 raise Fault(f"{nothing}: see what stands above, and what was asked for", 1)
@@ -115,7 +121,8 @@ class ProcessRun:
         if self._plan:
             forget_tests(self._plan, listed)
         suites = suites_of(listed)
-        return Recordable(self._head(session, suites), events, session.status, suites)
+        head = self._head(session, suites)
+        return Recordable(head, events, session.status, suites, collector.build_seconds)
 
     def _run_listed(
         self, loop: Loop, listed: Sequence[Listed]

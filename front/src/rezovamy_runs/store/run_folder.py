@@ -8,30 +8,30 @@ import functools
 import os
 import pathlib
 import re
+import shlex
 import time
 from collections.abc import Callable, Iterator
 
 from rezovamy_runs import formatting
-from rezovamy_runs.bundles import bundle
+from rezovamy_runs.bundles import bundle, bundle_file
+from rezovamy_runs.command_line import say
 from rezovamy_runs.faults.fault import Fault
 from rezovamy_runs.model import Summary
-from rezovamy_runs.store import location, whole_file
+from rezovamy_runs.store import location, notes, whole_file
+from rezovamy_runs.store.notes import RunNotes, WrongNotes
 
-ENDING, ASIDE = ".bundle", ".aside"
+ASIDE, PAGE = ".aside", ".html"
+JUNIT = "rezovamy-junit"
 RUN_ID = re.compile(r"[0-9a-f]{8}(?:-[0-9a-f]{4}){3}-[0-9a-f]{12}")
-# What marks a folder as one of files that can be made anew.
-TAG_FILE = "CACHEDIR.TAG"
-TAG = (
-    "Signature: 8a477f597d28d172789f06886806bc55\n"
-    "# The target directory of cargo, which can be made anew.\n"
-)
+# A file in the folder once the runs in the target directory were named.
+TOLD = ".runs-in-target-told"
 # A file that was written aside and has no writer any more; no recording takes that long.
 ABANDONED_AFTER = 24 * 3600
 SHORTEST_PREFIX = 4
 
 
 class Store:
-    """The runs of a folder, a file `RUNID.bundle` each."""
+    """The runs of a folder, a file `RUNID.bundle.gz` or `RUNID.bundle` each."""
 
     def __init__(self, folder: str | pathlib.Path) -> None:
         self._folder = pathlib.Path(folder)
@@ -43,20 +43,31 @@ class Store:
 
     def path_of(self, run_id: str) -> pathlib.Path:
         """Return the path of a run's bundle."""
-        return self.folder / f"{run_id}{ENDING}"
+        return bundle_file.in_folder(self.folder, run_id)
 
     def is_somewhere(self) -> bool:
         """Tell whether it is known where the folder is."""
         return True
 
+    def workspace_root(self) -> pathlib.Path | None:
+        """Return the folder of the workspace whose runs these are, None if it isn't known."""
+        return None
+
+    def junit_folder(self) -> pathlib.Path:
+        """Return the folder for JUnit XML if none is named: beside that of the runs."""
+        # In `.` and `..` no word names the folder, so that nothing stands before it.
+        folder = self.folder.resolve() if self.folder.name in ("", "..") else self.folder
+        return folder.parent / JUNIT
+
+    def prepare_junit(self) -> None:
+        """Make what the folder for JUnit XML is in, if that needs more than to be made."""
+
     def ids(self) -> list[str]:
         """Return the ids of the runs, in the order of their letters."""
         if not self.folder.is_dir():
             return []
-        names = (
-            name.removesuffix(ENDING) for name in os.listdir(self.folder) if name.endswith(ENDING)
-        )
-        return sorted(name for name in names if RUN_ID.fullmatch(name))
+        names = filter(bundle_file.is_named_so, os.listdir(self.folder))
+        return sorted(set(filter(RUN_ID.fullmatch, map(bundle_file.stem_of, names))))
 
     def summaries(self, say: Callable[[str], object] | None = None) -> list[Summary]:
         """Return the runs, the latest first. An unreadable file is a fault, or a line for `say`."""
@@ -81,7 +92,7 @@ class Store:
             return self.last()
         if is_bundle(word):
             return pathlib.Path(word)
-        if word.endswith(ENDING):
+        if bundle_file.is_named_so(word):
             raise Fault(
                 f"no bundle is at {word}: name the path of one, or the beginning of a run's id"
             )
@@ -98,9 +109,8 @@ class Store:
 
     def names_run(self, word: str) -> bool:
         """Tell whether `find` takes a word for the name of a run, be it one or more."""
-        return (
-            word == "last" or is_bundle(word) or word.endswith(ENDING) or bool(self.matching(word))
-        )
+        is_path = is_bundle(word) or bundle_file.is_named_so(word)
+        return word == "last" or is_path or bool(self.matching(word))
 
     def matching(self, word: str) -> list[str]:
         """Return the ids that begin with a word, which may be in upper case."""
@@ -162,16 +172,68 @@ class Store:
         It becomes the run's once all went well, and goes otherwise.
         """
         self.prepare()
-        target = self.path_of(run_id)
         with self.writable():
-            aside = whole_file.made_aside(target, run_id, ASIDE)
-        with whole_file.becoming(target, aside):
+            aside = self._made_aside(run_id)
+        try:
             yield aside
+            self._keep(run_id, aside)
+        finally:
+            aside.unlink(missing_ok=True)
+
+    def _made_aside(self, run_id: str) -> pathlib.Path:
+        """Make an empty file beside the runs."""
+        return whole_file.made_aside(self.folder / run_id, run_id, ASIDE)
+
+    def _keep(self, run_id: str, aside: pathlib.Path) -> None:
+        """Let a bundle become a run's, compressed. As it is, if there is no room for both."""
+        plain, compressed = (self.folder / f"{run_id}{ending}" for ending in bundle_file.ENDINGS)
+        try:
+            packed = self._made_aside(run_id)
+            with whole_file.becoming(compressed, packed):
+                bundle_file.compress(aside, packed)
+            plain.unlink(missing_ok=True)
+        except OSError:
+            with whole_file.becoming(plain, aside):
+                pass
+            compressed.unlink(missing_ok=True)
+
+    @contextlib.contextmanager
+    def noting(self, run_id: str, known: RunNotes | None) -> Iterator[None]:
+        """Write what is known of a run that is recorded meanwhile; after a fault it goes.
+
+        So whoever finds a bundle finds its notes too. If they can't be written, that is said, and
+        the run is recorded nevertheless.
+        """
+        path = notes.path_beside(self.path_of(run_id))
+        try:
+            self.prepare()
+            with self.writable():
+                if known is not None:
+                    notes.write(known, path)
+        except Fault as fault:
+            say(f"rezovamy-runs: the notes of the run aren't kept: {fault}")
+        try:
+            yield
+        except BaseException:
+            if not self.path_of(run_id).exists():
+                path.unlink(missing_ok=True)
+            raise
+
+    def notes(self, path: pathlib.Path) -> RunNotes | None:
+        """Return what is known of the run of a bundle, None if it has no notes.
+
+        Notes that can't be read are said, and count as none.
+        """
+        try:
+            return notes.read(notes.path_beside(path))
+        except WrongNotes as fault:
+            say(f"rezovamy-runs: {fault}")
+            return None
 
     def remove(self, run_id: str) -> None:
-        """Remove a run and its page; another one may have removed it before."""
-        self.path_of(run_id).unlink(missing_ok=True)
-        self.path_of(run_id).with_suffix(".html").unlink(missing_ok=True)
+        """Remove a run, its notes and its page; another one may have removed it before."""
+        for ending in (*bundle_file.ENDINGS, notes.ENDING, PAGE):
+            (self.folder / f"{run_id}{ending}").unlink(missing_ok=True)
 
     def abandoned(self) -> Iterator[pathlib.Path]:
         """Find the files that a recording left that was killed."""
@@ -191,7 +253,7 @@ class Store:
         for run in old:
             # By its file: in a copy under another name stands the id of a run that may have to
             # stay.
-            self.remove(run.bundle.stem)
+            self.remove(bundle_file.stem_of(run.bundle.name))
         for path in self.abandoned():
             path.unlink(missing_ok=True)
         return old
@@ -199,7 +261,7 @@ class Store:
 
 def is_bundle(word: str) -> bool:
     """Tell whether a word is the path of a file that may be a bundle."""
-    return (os.sep in word or word.endswith(ENDING)) and os.path.isfile(word)
+    return (os.sep in word or bundle_file.is_named_so(word)) and os.path.isfile(word)
 
 
 class Here(Store):
@@ -212,9 +274,18 @@ class Here(Store):
         self.manifest = manifest
 
     @functools.cached_property
+    def workspace(self) -> location.Workspace | None:
+        """Return the workspace, None if there is none."""
+        return location.workspace(self.manifest)
+
+    def workspace_root(self) -> pathlib.Path | None:
+        """Return the folder of the workspace, None if there is none."""
+        return self.workspace.root if self.workspace else None
+
+    @functools.cached_property
     def folder(self) -> pathlib.Path:
         """Return the folder, which may be looked for in vain."""
-        return location.runs_folder(self.manifest)
+        return location.named_folder() or location.runs_folder(self.workspace)
 
     def is_somewhere(self) -> bool:
         """Tell whether it is known where the folder is."""
@@ -223,18 +294,35 @@ class Here(Store):
         except Fault:
             return False
 
-    def prepare(self) -> None:
-        """Make the folder.
+    def ids(self) -> list[str]:
+        """Return the ids of the runs; at the first time, name those in the target directory."""
+        if location.named_folder() is None and self.workspace:
+            self._tell_of_older(self.workspace.target / location.OLDER)
+        return super().ids()
 
-        A target directory that is made with it is marked as cargo marks its own: no backup has it
-        then.
-        """
-        target = self.folder.parent
-        is_cargos = location.named_folder() is None and not target.exists()
-        super().prepare()
-        if is_cargos:
-            with self.writable():
-                (target / TAG_FILE).write_text(TAG)
+    def _tell_of_older(self, older: pathlib.Path) -> None:
+        """Say once that runs are where they were kept before, and how they are taken over."""
+        told, count = self.folder / TOLD, len(Store(older).ids())
+        if not count or told.exists():
+            return
+        verb, them = ("is", "it") if count == 1 else ("are", "them")
+        found = f"{formatting.count(count, 'run')} of an earlier version {verb}"
+        take = f"`rezovamy-runs import {shlex.quote(str(older))}` takes {them} over"
+        say(f"rezovamy-runs: {found} in the target directory: {take}")
+        with contextlib.suppress(OSError):
+            self.folder.mkdir(parents=True, exist_ok=True)
+            told.touch()
+
+    def junit_folder(self) -> pathlib.Path:
+        """Return the folder for JUnit XML: in the target directory, or beside a named folder."""
+        if location.named_folder() is not None or self.workspace is None:
+            return super().junit_folder()
+        return self.workspace.target / JUNIT
+
+    def prepare_junit(self) -> None:
+        """Make what the folder for JUnit XML is in, if that is the target directory."""
+        if location.named_folder() is None and self.workspace is not None:
+            location.make_target(self.workspace.target)
 
 
 def here(manifest: str | None = None) -> Store:
