@@ -14,7 +14,9 @@ from typing import Literal, NotRequired, TypeAlias, TypedDict
 from rezovamy_runs import formatting
 from rezovamy_runs.bundles.slices import Drawing, Span
 from rezovamy_runs.model import Attempt, Run, Script, Status, Test, TestName, Verdict
+from rezovamy_runs.page.about import PageCommand, PageFact, command_of, facts_of
 from rezovamy_runs.page.causes import PageCause, cause_of, grouped
+from rezovamy_runs.store.notes import RunNotes
 
 State: TypeAlias = Literal["failed", "unfinished", "flaky", "passed", "skipped", "script"]
 
@@ -78,7 +80,10 @@ class PageData(TypedDict):
     """All that a page knows; `marks` are instants with what is written at them."""
 
     run: PageRun
+    facts: list[PageFact]
+    source: str | None
     binaries: list[str]
+    commands: list[PageCommand | None]
     tests: list[PageTest]
     causes: list[PageCause]
     outputs: list[PageOutput]
@@ -367,8 +372,14 @@ def causes_of(run: Run) -> list[PageCause]:
     return grouped(scripts + tests)
 
 
-def page_data(run: Run, drawing: Drawing, outputs: Outputs) -> PageData:
-    """Return all that a page knows of a run."""
+def page_data(
+    run: Run,
+    drawing: Drawing,
+    outputs: Outputs,
+    notes: RunNotes | None = None,
+    source: str | None = None,
+) -> PageData:
+    """Return all that a page knows of a run; `source` is the pattern of links to its sources."""
     binaries = Binaries()
     scripts = [
         page_script(script, span, drawing, outputs)
@@ -377,7 +388,10 @@ def page_data(run: Run, drawing: Drawing, outputs: Outputs) -> PageData:
     tests = scripts + page_tests(run.tests, drawing, outputs, binaries)
     return {
         "run": page_run(run),
+        "facts": facts_of(notes),
+        "source": source,
         "binaries": list(binaries.places),
+        "commands": [command_of(binary) for binary in binaries.places],
         "tests": tests,
         "causes": causes_of(run),
         "outputs": outputs.kept,

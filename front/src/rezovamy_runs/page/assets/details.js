@@ -48,7 +48,8 @@ function attempt_card(attempt) {
     link_to_attempt(attempt),
   ));
   if (attempt.error) {
-    card.append(element("div", "error mono", safe_nodes(attempt.error, sought_in_outputs())));
+    const error = element("div", "error mono", safe_nodes(attempt.error, sought_in_outputs()));
+    card.append(link_sources(error));
   }
   for (const [stream, at] of attempt.outputs) card.append(output_part(stream, OUTPUTS[at]));
   const silence = silence_of(attempt);
@@ -89,6 +90,7 @@ function output_part(stream, output) {
   part.append(summary);
   if (output.text) {
     const text = element("pre", "", ...shown_nodes(output.text));
+    link_sources(text);
     text.tabIndex = 0;
     text.setAttribute("aria-label", STREAMS[stream]);
     part.append(text);
@@ -128,6 +130,24 @@ function back_button() {
   return button;
 }
 
+// A word as a shell reads it.
+function quoted(word) {
+  return /^[\w@%+=:,./-]+$/.test(word) ? word : `'${word.replaceAll("'", `'"'"'`)}'`;
+}
+
+// The command that runs a test alone, nothing if cargo has no words for it.
+function command_for({ name, binary }) {
+  const command = RUN.commands[binary];
+  if (!command || SPECIAL_TEXT.test(name)) return "";
+  if (command.whole || command.own?.includes(name)) return command.words;
+  return `${command.words} -- --exact ${name.startsWith("-") ? "-- " : ""}${quoted(name)}`;
+}
+
+function command_part(words) {
+  const button = copy_button("Copy", "Copy the command that runs this test", () => words);
+  return element("div", "command", element("code", "", words), button);
+}
+
 function draw_test(test) {
   const link = link_button("this test", () => words_for_test(test));
   const name = element("span", "", safe_nodes(test.name));
@@ -139,6 +159,7 @@ function draw_test(test) {
   const spans = facts.filter(Boolean).map((one) => element("span", "", safe_nodes(one)));
   const parts = [back_button(), head, element("p", "under", ...spans)];
   if (test.reason) parts.push(element("p", "under", `Skipped: ${test.reason}.`));
+  if (command_for(test)) parts.push(command_part(command_for(test)));
   details.replaceChildren(...parts, ...test.attempts.map((one) => attempt_card(one)));
   details.scrollTop = 0;
 }

@@ -31,6 +31,16 @@ function draw_facts() {
   ];
   const span = (fact) => titled(element("span", "", safe_nodes(fact)), fact);
   facts.replaceChildren(...told.filter(Boolean).map(span), id);
+  const brief = RUN.facts.filter((fact) => fact.brief);
+  document.getElementById("known-by").replaceChildren(...brief.map(brief_fact));
+}
+
+// What the run is known by, each with its name for a screen reader and in its tip.
+function brief_fact({ name, text, link }) {
+  const told = link ? web_link(link, safe_nodes(text)) : element("span", "", safe_nodes(text));
+  const made = element("span", "", element("span", "unseen", `${name}: `), told);
+  made.title = `${name}: ${shown(text)}`;
+  return made;
 }
 
 // A thin line that shows the shares of the states.

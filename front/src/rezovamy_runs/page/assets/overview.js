@@ -11,9 +11,15 @@ function why(test) {
   if (test.state === "failed" && !test.attempts.at(-1).bad) {
     return "it passed at a later attempt, which counts as a failure";
   }
-  const last = test.attempts.findLast((attempt) => attempt.bad || attempt.result === "unfinished");
+  const last = test.attempts.findLast((attempt) => attempt.bad || attempt.result === "unfinished")
+    ?? (ran_beside(test) ? test.attempts.at(-1) : null);
   if (!last) return "";
   return last.error ? first_line(last.error) : ending_of(last);
+}
+
+// Such a test ran in a process that another one crashed, and passed by itself.
+function ran_beside(test) {
+  return Boolean(test.attempts.at(-1)?.error?.startsWith("ran beside a crash"));
 }
 
 function item(test, { reason = "", bar = false } = {}) {
@@ -144,15 +150,17 @@ function about_run() {
     ["Bundle", run.bundle],
   ];
   const about = element("dl", "about");
-  for (const [name, value] of facts) {
-    if (value) about.append(element("dt", "", name), fact_of_run(value));
+  facts.push(...RUN.facts.map(({ name, text, link }) => [name, text, link]));
+  for (const [name, value, link] of facts) {
+    if (value) about.append(element("dt", "", safe_nodes(name)), fact_of_run(value, link));
   }
   return element("section", "", element("h3", "", "This run"), about);
 }
 
 // What is too long for some lines is whole in a field that scrolls.
-function fact_of_run(value) {
-  const made = element("dd", "", safe_nodes(value));
+function fact_of_run(value, link) {
+  const told = safe_nodes(value);
+  const made = element("dd", "", link ? web_link(link, told) : told);
   if (value.length > 500) made.tabIndex = 0;
   return made;
 }
@@ -160,6 +168,7 @@ function fact_of_run(value) {
 function draw_run() {
   const tests = TESTS.filter((test) => test.state !== "script" && test.attempts.length);
   const flaky = tests.filter((test) => test.state === "flaky");
+  const beside = tests.filter((test) => test.state === "passed" && ran_beside(test));
   const slowest = [...tests].sort(ORDERS.slowest).slice(0, 10);
   const notes = [missing, ...RUN.notes].filter(Boolean);
   const warnings = notes.map((note) => element("p", "warning", note));
@@ -168,6 +177,7 @@ function draw_run() {
     ...warnings,
     ...all_failures(),
     part(`${whole(flaky.length)} flaky, passed when tried again`, flaky, with_reason),
+    part(`${whole(beside.length)} ran beside a crash, and passed alone`, beside, with_reason),
     element("div", "pair",
       part("Slowest tests", slowest, () => ({ bar: true })),
       element("div", "", table_of_binaries(), about_run())),

@@ -45,6 +45,8 @@ const SPECIAL = new RegExp(
   String.raw`\x1b\[([0-9;]*)m|[\udc80-\udcff]+|(?:${SPELLED})+`, "gu",
 );
 
+const SPECIAL_TEXT = new RegExp(SPECIAL.source, "u");
+
 function spelled(text) {
   return Array.from(text, (one) => {
     const code = one.codePointAt(0);
