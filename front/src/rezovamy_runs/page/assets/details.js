@@ -79,6 +79,7 @@ const STREAMS = { stdout: "Standard output", stderr: "Standard error", combined:
 function output_part(stream, output) {
   if (!output.size) return "";
   const part = element("details", "output");
+  part.setAttribute("aria-label", STREAMS[stream]);
   part.open = true;
   const lines = output.text.split("\n").length - (output.text.endsWith("\n") ? 1 : 0);
   const told = bytes(output.size) + (output.note ? "" : `, ${plural(lines, "line")}`);

@@ -77,6 +77,18 @@ function apply_theme() {
   document.dispatchEvent(new Event("theme"));
 }
 
+// What is closed on the screen can't be opened on paper.
+let opened_for_paper = [];
+
+function open_for_paper() {
+  opened_for_paper = [...document.querySelectorAll(".cause:not([open]), .output:not([open])")];
+  opened_for_paper.forEach((one) => { one.open = true; });
+}
+
+function close_after_paper() {
+  opened_for_paper.forEach((one) => { one.open = false; });
+}
+
 function start_head() {
   draw_headline();
   draw_facts();
@@ -84,8 +96,8 @@ function start_head() {
   theme = THEMES.find((one) => one === kept("rezovamy-theme")) ?? "auto";
   apply_theme();
   prefers_dark.addEventListener("change", apply_theme);
-  addEventListener("beforeprint", () => { on_paper = true; apply_theme(); });
-  addEventListener("afterprint", () => { on_paper = false; apply_theme(); });
+  addEventListener("beforeprint", () => { on_paper = true; apply_theme(); open_for_paper(); });
+  addEventListener("afterprint", () => { on_paper = false; apply_theme(); close_after_paper(); });
   document.getElementById("theme").addEventListener("click", () => {
     theme = THEMES[(THEMES.indexOf(theme) + 1) % THEMES.length];
     kept("rezovamy-theme", theme);

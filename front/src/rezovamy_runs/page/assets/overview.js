@@ -64,6 +64,7 @@ function cause_of_several({ title, tests, is_shared }) {
   const told = titled(element("span", "name", safe_nodes(title)), title);
   const summary = element("summary", "", state_mark(tests[0].end), count, " ", told);
   const group = element("details", "cause", summary);
+  group.setAttribute("aria-label", `${plural(tests.length, "test")}: ${shown(title)}`);
   if (is_shared) group.append(element("p", "beside", SHARED));
   group.append(items_of(tests, (test) => ({ reason: why(test) })));
   group.open = FAILURES.length <= 12;
