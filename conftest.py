@@ -1,7 +1,7 @@
 """What all Python tests share: what each needs of the machine, and what follows if that is missing.
 
-A test that is marked `program`, `cargo`, `browser` or `postgres` needs the built program, cargo,
-Chromium, or a server of PostgreSQL with psycopg.
+A test that is marked `program`, `cargo`, `browser`, `firefox` or `postgres` needs the built program,
+cargo, Chromium, Firefox, or a server of PostgreSQL with psycopg.
 Where it is missing the test is skipped; with REZOVAMY_TEST_ALL=1, as in the gate, it fails.
 """
 
@@ -21,6 +21,7 @@ from tests import postgres
 TOP = pathlib.Path(__file__).resolve().parent
 BUILT = TOP / "crates/rezovamy/out/rezovamy"
 BROWSERS = ("chromium", "chromium-browser", "google-chrome")
+FIREFOX = ("firefox-esr", "firefox")
 
 
 def program_path() -> pathlib.Path | None:
@@ -61,6 +62,8 @@ def pytest_runtest_setup(item: pytest.Item) -> None:
         leave_out("PostgreSQL or psycopg")
     if item.get_closest_marker("browser") and not any(map(shutil.which, BROWSERS)):
         leave_out("Chromium")
+    if item.get_closest_marker("firefox") and not any(map(shutil.which, FIREFOX)):
+        leave_out("Firefox")
 
 
 @pytest.fixture(scope="session")

@@ -21,6 +21,7 @@ need_module mypy mypy
 need_module pytest python3-pytest
 need_module psycopg python3-psycopg
 need_command chromium chromium
+need_command firefox-esr firefox-esr
 need_command groff groff
 need_command node nodejs
 need_command shellcheck shellcheck

@@ -129,15 +129,15 @@ class Browser:
             assert time.monotonic() <= until, f"it never comes: {code}"
             time.sleep(0.02)
 
-    def open(
-        self, path: pathlib.Path, wide: int = 1400, high: int = 900, dark: bool = False
-    ) -> None:
+    def open(self, address: str, wide: int = 1400, high: int = 900, dark: bool = False) -> None:
         """Open a page in a window of this size."""
         size: Json = {"width": wide, "height": high, "deviceScaleFactor": 1, "mobile": False}
         self.ask("Emulation.setDeviceMetricsOverride", **size)
         scheme = {"name": "prefers-color-scheme", "value": "dark" if dark else "light"}
         self.ask("Emulation.setEmulatedMedia", features=[scheme])
-        self.ask("Page.navigate", url=path.resolve().as_uri())
+        # To another fragment of the page that is open a browser only scrolls.
+        self.ask("Page.navigate", url="about:blank")
+        self.ask("Page.navigate", url=address)
         self.wait_until("document.readyState === 'complete'")
         # Before the first frame a browser drops what mouse and keys do.
         self.evaluate(NEXT_FRAME)
@@ -160,6 +160,14 @@ class Browser:
         for kind, button in kinds.items():
             place: Json = {"x": x, "y": y, "button": button, "clickCount": 1}
             self.ask("Input.dispatchMouseEvent", type=kind, **place)
+
+    def drag(self, begin: tuple[float, float], end: tuple[float, float], shift: bool) -> None:
+        """Drag with the mouse from a place to another one, with the shift key or without it."""
+        steps = [("mousePressed", begin, 0), ("mouseMoved", end, 1), ("mouseReleased", end, 1)]
+        for kind, (x, y), buttons in steps:
+            place: Json = {"x": x, "y": y, "button": "left", "buttons": buttons, "clickCount": 1}
+            modifiers = 8 if shift else 0
+            self.ask("Input.dispatchMouseEvent", type=kind, modifiers=modifiers, **place)
 
     def complaints(self) -> list[str]:
         """Return what the page wrote to its console, and exceptions that nobody caught."""
@@ -184,7 +192,7 @@ class Browser:
             for event in self.events
             if event.get("method") == "Network.requestWillBeSent"
         ]
-        return [address for address in addresses if not address.startswith("data:")]
+        return [address for address in addresses if not address.startswith(("data:", "about:"))]
 
     def close(self) -> None:
         """End the browser, if need be by force."""

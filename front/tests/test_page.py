@@ -17,7 +17,7 @@ from rezovamy_runs.faults.fault import Fault
 from rezovamy_runs.page import document
 from rezovamy_runs.page.data import PageAttempt, Outputs, PageData, State, PageTest, cut_middle
 from tests import EXAMPLES
-from tests.made import bundle_of, exit_code, finished, session_of, started, status
+from tests.made import bundle_of, event, exit_code, finished, session_of, started, status
 from tests.page_sessions import NASTY, nasty_session
 
 DATA = re.compile(r'<script type="application/json" id="data">(.*?)</script>')
@@ -81,6 +81,19 @@ def test_a_pause_cuts_an_attempt(page: Page) -> None:
     assert (failing["slot"], failing["slices"], failing["seconds"]) == (0, slices, 5)
 
 
+def test_a_time_is_without_the_pause_whatever_was_recorded(tmp_path: pathlib.Path) -> None:
+    events = [
+        started(0, "paused", 0),
+        event("run-paused", 1),
+        event("run-continued", 4),
+        finished(7, "paused", status(0, 7)),
+        started(7, "whole", 0),
+        finished(9, "whole", status(7, 1.5)),
+    ]
+    tests = page_of(session_of(events), tmp_path).tests
+    assert [tests[name]["attempts"][0]["seconds"] for name in ("paused", "whole")] == [4, 1.5]
+
+
 def test_an_attempt_without_an_end_has_no_length(page: Page) -> None:
     (hanging,) = page.tests["hangs"]["attempts"]
     slices = [1_500_000, 3_000_000, 5_000_000, 9_000_000]
@@ -110,6 +123,14 @@ def test_the_run_is_told(page: Page) -> None:
     assert marks == [(9_000_000, "cancelled: interrupt")]
     cancelled = "The run was cancelled: interrupt."
     assert page.value["notes"] == [cancelled, "2 tests more were announced, and never started."]
+
+
+def test_failures_stand_by_their_causes(page: Page) -> None:
+    # The script is at place 0, and the tests are in the order in which they started.
+    assert page.value["causes"] == [
+        {"title": "failed, exit code 101", "tests": [1]},
+        {"title": "never ended", "tests": [3]},
+    ]
 
 
 def test_a_run_without_an_end_says_so(tmp_path: pathlib.Path) -> None:
@@ -273,8 +294,12 @@ def title_of(tests: list[PageTest], profile: str = "ci") -> str:
             "args": [],
             "bundle": "",
         },
+        "facts": [],
+        "source": None,
         "binaries": [],
+        "commands": [],
         "tests": tests,
+        "causes": [],
         "outputs": [],
         "notes": [],
         "pauses": [],

@@ -11,6 +11,7 @@ from collections.abc import Iterator
 import pytest
 
 from rezovamy_runs.page import document
+from tests.duration_cases import DURATIONS
 
 NODE = shutil.which("node")
 SPELLED = "`<${colour === undefined ? spelled(part) : ''}>`"
@@ -51,28 +52,11 @@ def script() -> Iterator[Script]:
         yield Script(process)
 
 
-@pytest.mark.parametrize(
-    ("seconds", "told"),
-    [
-        (0, "0 s"),
-        (1e-7, "< 1 µs"),
-        (1e-6, "1 µs"),
-        (0.000999, "999 µs"),
-        (0.001, "1 ms"),
-        (0.0042, "4.2 ms"),
-        (0.1234, "123 ms"),
-        (0.9994, "999 ms"),
-        (1, "1.00 s"),
-        (9.994, "9.99 s"),
-        (9.996, "10.0 s"),
-        (59.94, "59.9 s"),
-        (59.96, "1 min 0 s"),
-        (61.4, "1 min 1 s"),
-        (3599.7, "1 h 0 min"),
-        (7260, "2 h 1 min"),
-        (-1.5, "−1.50 s"),
-    ],
-)
+# The page has no room for zeros: its tests may take microseconds.
+SHORT = [(1e-7, "< 1µs"), (1e-6, "1µs"), (0.000499, "499µs"), (-1.5, "−1.5s")]
+
+
+@pytest.mark.parametrize(("seconds", "told"), DURATIONS + SHORT)
 def test_durations(script: Script, seconds: float, told: str) -> None:
     assert script.value("duration(one)", seconds) == told
 
@@ -155,7 +139,7 @@ def test_a_thousand_places_are_found(script: Script) -> None:
 def test_very_many_tests() -> None:
     attempt = {"number": 1, "seconds": 2}
     test = {"name": "t", "state": "passed", "binary": 0, "attempts": [attempt]}
-    value = {"binaries": ["alpha"], "outputs": [], "tests": [test] * 200_000}
+    value = {"binaries": ["alpha"], "outputs": [], "causes": [], "tests": [test] * 200_000}
     parts = [DOCUMENT, document.part("text.js"), document.part("data.js")]
     parts.append("console.log(LONGEST, TEST_COUNT);")
     words = [NODE or "node", "-e", "\n".join(parts)]

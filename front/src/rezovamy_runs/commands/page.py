@@ -26,6 +26,7 @@ class Options:
     run: str
     to: str | None
     most_output: int
+    source: str | None
 
 
 def add_options(parser: argparse.ArgumentParser) -> None:
@@ -45,13 +46,19 @@ def add_options(parser: argparse.ArgumentParser) -> None:
         help="the most bytes of an output; of a longer one the middle is left out "
         f"({MOST_OUTPUT})",
     )
+    parser.add_argument(
+        "--source",
+        metavar="PATTERN",
+        help="where the sources are, as https://host/project/blob/{commit}/{file}#L{line} "
+        "(the run's note `source`)",
+    )
 
 
 def run(words: argparse.Namespace) -> int:
     """Write the page, and print where it is."""
     options = options_of(Options, words)
     path = run_folder.here().find(options.run)
-    text = document.page_of(path, options.most_output)
+    text = document.page_of(path, options.most_output, options.source)
     if options.to == STANDARD_OUTPUT:
         print_page(text)
     else:

@@ -14,6 +14,9 @@ from typing import Literal, NotRequired, TypeAlias, TypedDict
 from rezovamy_runs import formatting
 from rezovamy_runs.bundles.slices import Drawing, Span
 from rezovamy_runs.model import Attempt, Run, Script, Status, Test, TestName, Verdict
+from rezovamy_runs.page.about import PageCommand, PageFact, command_of, facts_of
+from rezovamy_runs.page.causes import PageCause, cause_of, grouped
+from rezovamy_runs.store.notes import RunNotes
 
 State: TypeAlias = Literal["failed", "unfinished", "flaky", "passed", "skipped", "script"]
 
@@ -77,8 +80,12 @@ class PageData(TypedDict):
     """All that a page knows; `marks` are instants with what is written at them."""
 
     run: PageRun
+    facts: list[PageFact]
+    source: str | None
     binaries: list[str]
+    commands: list[PageCommand | None]
     tests: list[PageTest]
+    causes: list[PageCause]
     outputs: list[PageOutput]
     notes: list[str]
     pauses: list[tuple[int, int]]
@@ -216,10 +223,17 @@ def page_attempt(
     if slot is not None:
         made["slot"] = slot
     if has_ended:
-        made["seconds"] = round(attempt.seconds, 9)
+        made["seconds"] = round(active_seconds(attempt, span), 9)
     if span:
         add_times(made, span, drawing)
     return made
+
+
+def active_seconds(attempt: Attempt, span: Span | None) -> float:
+    """Return how long an attempt ran, without the pauses that cut it."""
+    if span is None or len(span.slices) < 2:
+        return attempt.seconds
+    return sum(end - begin for begin, end in span.slices) / 10**6
 
 
 def add_times(made: PageAttempt, span: Span, drawing: Drawing) -> None:
@@ -343,8 +357,29 @@ def page_run(run: Run) -> PageRun:
     }
 
 
-def page_data(run: Run, drawing: Drawing, outputs: Outputs) -> PageData:
-    """Return all that a page knows of a run."""
+def causes_of(run: Run) -> list[PageCause]:
+    """Return why setup scripts and tests failed; a page has the scripts before the tests."""
+    scripts = [
+        (place, cause_of(script.id, [script.attempt]))
+        for place, script in enumerate(run.scripts)
+        if not script.attempt.passed
+    ]
+    tests = [
+        (len(run.scripts) + place, cause_of(test.binary, test.attempts))
+        for place, test in enumerate(run.tests)
+        if test.verdict in (Verdict.FAIL, Verdict.UNFINISHED)
+    ]
+    return grouped(scripts + tests)
+
+
+def page_data(
+    run: Run,
+    drawing: Drawing,
+    outputs: Outputs,
+    notes: RunNotes | None = None,
+    source: str | None = None,
+) -> PageData:
+    """Return all that a page knows of a run; `source` is the pattern of links to its sources."""
     binaries = Binaries()
     scripts = [
         page_script(script, span, drawing, outputs)
@@ -353,8 +388,12 @@ def page_data(run: Run, drawing: Drawing, outputs: Outputs) -> PageData:
     tests = scripts + page_tests(run.tests, drawing, outputs, binaries)
     return {
         "run": page_run(run),
+        "facts": facts_of(notes),
+        "source": source,
         "binaries": list(binaries.places),
+        "commands": [command_of(binary) for binary in binaries.places],
         "tests": tests,
+        "causes": causes_of(run),
         "outputs": outputs.kept,
         "notes": notes_of(run, outputs),
         "pauses": [(begin - drawing.begin, end - drawing.begin) for begin, end in drawing.pauses],

@@ -12,7 +12,9 @@ import re
 from rezovamy_runs import formatting, terminal
 from rezovamy_runs.bundles import bundle
 from rezovamy_runs.bundles.slices import draw
+from rezovamy_runs.page.about import source_pattern
 from rezovamy_runs.page.data import MOST_OUTPUT, Outputs, PageData, page_data
+from rezovamy_runs.store import notes as run_notes
 
 PARTS = pathlib.Path(__file__).resolve().parent / "assets"
 # How much of a profile's name stands in the title of a window, which shows no more anyway.
@@ -20,12 +22,16 @@ LONGEST_PROFILE = 50
 # In the order in which they need one another.
 SCRIPTS = (
     "text",
+    "sources",
+    "copying",
     "data",
     "head",
     "list",
     "timeline",
     "drawing",
+    "selection",
     "pointing",
+    "address",
     "details",
     "overview",
     "main",
@@ -108,11 +114,17 @@ def page_html(value: PageData) -> str:
     return PLACE_IN_TEMPLATE.sub(lambda match: parts[match[1]], part("page.html"))
 
 
-def page_of(path: pathlib.Path, most_output: int = MOST_OUTPUT) -> str:
-    """Return the page of the bundle at a path."""
+def page_of(path: pathlib.Path, most_output: int = MOST_OUTPUT, source: str | None = None) -> str:
+    """Return the page of the bundle at a path, with what its notes say.
+
+    `source` is the pattern of links to the sources of its tests.
+    """
+    notes = run_notes.read(run_notes.path_beside(path))
+    pattern = source_pattern(source, notes)
 
     def value_of(opened: bundle.Bundle) -> PageData:
-        return page_data(opened.run(True), draw(opened.lines()), Outputs(most_output))
+        outputs = Outputs(most_output)
+        return page_data(opened.run(True), draw(opened.lines()), outputs, notes, pattern)
 
     return page_html(bundle.read(path, value_of))
 

@@ -74,6 +74,12 @@ const COUNTS = Object.fromEntries(Object.keys(STATES).map((state) => [state, 0])
 TESTS.forEach((test) => COUNTS[test.state]++);
 const TEST_COUNT = TESTS.length - COUNTS.script;
 
+// What failed or never ended, in the order of the causes.
+const CAUSES = RUN.causes.map(({ title, tests, shared: is_shared }) => (
+  { title, is_shared, tests: tests.map((at) => TESTS[at]) }));
+const FAILURES = CAUSES.flatMap((cause) => cause.tests);
+const FAILED_SCRIPTS = TESTS.filter((test) => test.state === "script" && test.end !== "script");
+
 // An output in lower case, in which it is put once, when it is first searched.
 const low_outputs = [];
 function low_output(at) {

@@ -45,14 +45,23 @@ function attempt_card(attempt) {
     element("h3", "", title[0].toUpperCase() + title.slice(1)),
     element("span", `result is-${result_state(attempt)}`, ending_of(attempt)),
     ...also.filter(Boolean).map((one) => element("span", "also", one)),
+    link_to_attempt(attempt),
   ));
   if (attempt.error) {
-    card.append(element("div", "error mono", safe_nodes(attempt.error, sought_in_outputs())));
+    const error = element("div", "error mono", safe_nodes(attempt.error, sought_in_outputs()));
+    card.append(link_sources(error));
   }
   for (const [stream, at] of attempt.outputs) card.append(output_part(stream, OUTPUTS[at]));
   const silence = silence_of(attempt);
   if (silence) card.append(element("p", "none", silence));
   return card;
+}
+
+// The only attempt of a test has the link of the test.
+function link_to_attempt(attempt) {
+  const { test, number } = attempt;
+  if (test.attempts.length < 2) return "";
+  return link_button(`attempt ${number}`, () => words_for_test(test, attempt));
 }
 
 function silence_of(attempt) {
@@ -70,14 +79,19 @@ const STREAMS = { stdout: "Standard output", stderr: "Standard error", combined:
 function output_part(stream, output) {
   if (!output.size) return "";
   const part = element("details", "output");
+  part.setAttribute("aria-label", STREAMS[stream]);
   part.open = true;
   const lines = output.text.split("\n").length - (output.text.endsWith("\n") ? 1 : 0);
   const told = bytes(output.size) + (output.note ? "" : `, ${plural(lines, "line")}`);
   const summary = element("summary", "", element("b", "", STREAMS[stream]), told);
-  if (output.text) summary.append(copy_button(output.text));
+  if (output.text) {
+    const label = `Copy ${STREAMS[stream].toLowerCase()}`;
+    summary.append(copy_button("Copy", label, () => clean(output.text)));
+  }
   part.append(summary);
   if (output.text) {
     const text = element("pre", "", ...shown_nodes(output.text));
+    link_sources(text);
     text.tabIndex = 0;
     text.setAttribute("aria-label", STREAMS[stream]);
     part.append(text);
@@ -103,25 +117,9 @@ function character_before(text, place) {
   return /[\ud800-\udbff]/.test(text[place - 1]) ? place - 1 : place;
 }
 
-function copy_button(text) {
-  const button = element("button", "quiet", "Copy");
-  button.type = "button";
-  button.addEventListener("click", async (event) => {
-    event.preventDefault();
-    const clean = (part, colour) => (colour === undefined ? spelled(part) : "");
-    button.textContent = await copied(text.replace(SPECIAL, clean)) ? "Copied" : "Not copied";
-    setTimeout(() => { button.textContent = "Copy"; }, 1500);
-  });
-  return button;
-}
-
-async function copied(text) {
-  try {
-    await navigator.clipboard.writeText(text);
-    return true;
-  } catch {
-    return false;
-  }
+// A text as it is safe to paste into a terminal: without colours, with what could do harm spelled.
+function clean(text) {
+  return text.replace(SPECIAL, (part, colour) => (colour === undefined ? spelled(part) : ""));
 }
 
 function back_button() {
@@ -133,8 +131,28 @@ function back_button() {
   return button;
 }
 
+// A word as a shell reads it.
+function quoted(word) {
+  return /^[\w@%+=:,./-]+$/.test(word) ? word : `'${word.replaceAll("'", `'"'"'`)}'`;
+}
+
+// The command that runs a test alone, nothing if cargo has no words for it.
+function command_for({ name, binary }) {
+  const command = RUN.commands[binary];
+  if (!command || SPECIAL_TEXT.test(name)) return "";
+  if (command.whole || command.own?.includes(name)) return command.words;
+  return `${command.words} -- --exact ${name.startsWith("-") ? "-- " : ""}${quoted(name)}`;
+}
+
+function command_part(words) {
+  const button = copy_button("Copy", "Copy the command that runs this test", () => words);
+  return element("div", "command", element("code", "", words), button);
+}
+
 function draw_test(test) {
-  const head = element("h2", "", state_mark(test.end), element("span", "", safe_nodes(test.name)));
+  const link = link_button("this test", () => words_for_test(test));
+  const name = element("span", "", safe_nodes(test.name));
+  const head = element("div", "test-head", element("h2", "", state_mark(test.end), name), link);
   const facts = [
     test.place, STATES[test.end === "script" ? "passed" : test.end].word, time_of(test),
     test.flaky_fails ? "passing at a later attempt counts as a failure" : "", test.command ?? "",
@@ -142,6 +160,7 @@ function draw_test(test) {
   const spans = facts.filter(Boolean).map((one) => element("span", "", safe_nodes(one)));
   const parts = [back_button(), head, element("p", "under", ...spans)];
   if (test.reason) parts.push(element("p", "under", `Skipped: ${test.reason}.`));
+  if (command_for(test)) parts.push(command_part(command_for(test)));
   details.replaceChildren(...parts, ...test.attempts.map((one) => attempt_card(one)));
   details.scrollTop = 0;
 }

@@ -6,7 +6,7 @@ const FAMILIES = [
 const FONT = `11px ${FAMILIES.join(", ")}`;
 const COLOURS = [
   "panel", "ink", "muted", "faint", "line", "accent", "on-slice", "on-failed", "pause",
-  "pause-line", "edge",
+  "pause-line", "edge", "hover",
 ];
 const KINDS = ["passed", "script", "flaky", "retried", "unfinished", "failed"];
 
@@ -59,6 +59,7 @@ function draw_lanes() {
   context.beginPath();
   context.rect(gutter, AXIS, width - gutter, height - AXIS);
   context.clip();
+  draw_bands(context, first, end);
   draw_grid(context, first, end);
   draw_pauses(context);
   draw_retries(context, false);
@@ -66,9 +67,24 @@ function draw_lanes() {
   draw_retries(context, true);
   draw_chosen(context);
   draw_marks(context);
+  draw_selection(context);
   context.restore();
   draw_names(context, first, end);
   draw_axis(context);
+}
+
+// Every second row is a band, and so is the time of setup scripts over all rows.
+function draw_bands(context, first, end) {
+  context.fillStyle = paint.hover;
+  for (let at = first; at < end; at++) {
+    if (at % 2) context.fillRect(gutter, top_of(at), width - gutter, lane);
+  }
+  context.fillStyle = paint.script;
+  context.globalAlpha = 0.3;
+  for (const [from, to] of SCRIPT_TIMES) {
+    context.fillRect(x_at(from), AXIS, Math.max(1, x_at(to) - x_at(from)), height);
+  }
+  context.globalAlpha = 1;
 }
 
 function draw_grid(context, first, end) {
@@ -126,7 +142,9 @@ function draw_slice(context, kind, left, top, wide) {
   const high = lane - 6;
   context.fillStyle = paint.edges[kind];
   if (wide <= 4) {
-    context.fillRect(left, top, wide, high);
+    // On whole pixels no neighbour shines through.
+    if (LOUD[kind]) context.fillRect(Math.round(left), top, Math.max(2, Math.round(wide)), high);
+    else context.fillRect(left, top, wide, high);
     return;
   }
   fill_round(context, left, top, wide, high, 2.5);
@@ -314,7 +332,7 @@ function tick_label(time, step) {
   }
   const [times, unit] = unit_of_ticks(step, time);
   const digits = Math.max(0, Math.ceil(-Math.log10(step * times) - 1e-9));
-  return `${(time * times).toFixed(digits)} ${unit}`;
+  return `${(time * times).toFixed(digits)}${unit}`;
 }
 
 // How often the unit of a tick stands in a second, and what it is called.

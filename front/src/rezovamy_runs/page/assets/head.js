@@ -1,16 +1,19 @@
 // The top of the page: how the run ended, in a line, and whose it is.
 
 function draw_headline() {
-  const parts = STATES_OF_TESTS.filter((state) => COUNTS[state]);
-  const headline = document.getElementById("headline");
-  headline.replaceChildren();
-  parts.forEach((state, at) => {
-    const loud = state === "failed" || (state === "passed" && !COUNTS.failed && !COUNTS.unfinished);
-    const comma = at < parts.length - 1 ? element("span", "rest", ",") : "";
-    const told = `${whole(COUNTS[state])} ${STATES[state].word}`;
-    headline.append(element("span", "", element("span", loud ? state : "rest", told), comma), " ");
+  const is_green = !COUNTS.failed && !COUNTS.unfinished && !FAILED_SCRIPTS.length;
+  const parts = STATES_OF_TESTS.filter((state) => COUNTS[state]).map((state) => {
+    const is_loud = state === "failed" || (state === "passed" && is_green);
+    return [is_loud ? state : "rest", `${whole(COUNTS[state])} ${STATES[state].word}`];
   });
-  if (!parts.length) headline.append("No test ran");
+  const scripts = FAILED_SCRIPTS.length;
+  if (scripts) parts.unshift(["failed", `${plural(scripts, "setup script")} failed`]);
+  const headline = document.getElementById("headline");
+  headline.replaceChildren(...(parts.length ? [] : ["No test ran"]));
+  parts.forEach(([style, told], at) => {
+    const comma = at < parts.length - 1 ? element("span", "rest", ",") : "";
+    headline.append(element("span", "", element("span", style, told), comma), " ");
+  });
 }
 
 function draw_facts() {
@@ -19,7 +22,7 @@ function draw_facts() {
   const id = element("span", "mono", run.id.slice(0, 8));
   id.title = run.id;
   const told = [
-    plural(TEST_COUNT - COUNTS.skipped, "test"),
+    plural(TEST_COUNT, "test"),
     duration(run.seconds),
     run.status === "completed" ? "" : run.status,
     run.exit ? `exit code ${run.exit}` : "",
@@ -28,6 +31,16 @@ function draw_facts() {
   ];
   const span = (fact) => titled(element("span", "", safe_nodes(fact)), fact);
   facts.replaceChildren(...told.filter(Boolean).map(span), id);
+  const brief = RUN.facts.filter((fact) => fact.brief);
+  document.getElementById("known-by").replaceChildren(...brief.map(brief_fact));
+}
+
+// What the run is known by, each with its name for a screen reader and in its tip.
+function brief_fact({ name, text, link }) {
+  const told = link ? web_link(link, safe_nodes(text)) : element("span", "", safe_nodes(text));
+  const made = element("span", "", element("span", "unseen", `${name}: `), told);
+  made.title = `${name}: ${shown(text)}`;
+  return made;
 }
 
 // A thin line that shows the shares of the states.
@@ -64,6 +77,18 @@ function apply_theme() {
   document.dispatchEvent(new Event("theme"));
 }
 
+// What is closed on the screen can't be opened on paper.
+let opened_for_paper = [];
+
+function open_for_paper() {
+  opened_for_paper = [...document.querySelectorAll(".cause:not([open]), .output:not([open])")];
+  opened_for_paper.forEach((one) => { one.open = true; });
+}
+
+function close_after_paper() {
+  opened_for_paper.forEach((one) => { one.open = false; });
+}
+
 function start_head() {
   draw_headline();
   draw_facts();
@@ -71,8 +96,8 @@ function start_head() {
   theme = THEMES.find((one) => one === kept("rezovamy-theme")) ?? "auto";
   apply_theme();
   prefers_dark.addEventListener("change", apply_theme);
-  addEventListener("beforeprint", () => { on_paper = true; apply_theme(); });
-  addEventListener("afterprint", () => { on_paper = false; apply_theme(); });
+  addEventListener("beforeprint", () => { on_paper = true; apply_theme(); open_for_paper(); });
+  addEventListener("afterprint", () => { on_paper = false; apply_theme(); close_after_paper(); });
   document.getElementById("theme").addEventListener("click", () => {
     theme = THEMES[(THEMES.indexOf(theme) + 1) % THEMES.length];
     kept("rezovamy-theme", theme);

@@ -71,6 +71,8 @@ function row_of(test, at, height, wanted) {
   const name = element("span", "name", marked_safely(test.name, wanted));
   name.title = test.shown;
   const place = element("span", "place", marked_safely(test.place, wanted));
+  const cause = test.end === "failed" ? why(test) : "";
+  if (cause) place.append(element("span", "only-narrow", safe_nodes(` · ${cause}`)));
   const count = test.attempts.length;
   const tries = count > 1 ? element("span", "tries", `${count}×`) : null;
   if (tries) tries.setAttribute("aria-label", `${count} attempts`);
@@ -136,7 +138,7 @@ function list_key(event) {
 }
 
 function draw_states() {
-  const buttons = Object.keys(STATES).filter((state) => COUNTS[state]).map((state) => {
+  const buttons = states_of_run().map((state) => {
     const word = STATES[state].short ?? STATES[state].word;
     const count = element("b", "", whole(COUNTS[state]));
     const button = element("button", "", state_mark(state, true), count, word);
@@ -149,15 +151,23 @@ function draw_states() {
   document.getElementById("states").replaceChildren(...buttons);
 }
 
+// The states that tests of the run are in.
+function states_of_run() {
+  return Object.keys(STATES).filter((state) => COUNTS[state]);
+}
+
 // A first click shows that state alone, as one means it; further clicks add others. With none left
 // all are shown.
 function toggle_state(state) {
-  const there = Object.keys(STATES).filter((one) => COUNTS[one]);
-  if (there.every((one) => shown_states.has(one))) {
-    shown_states.clear();
-    shown_states.add(state);
-  } else if (!shown_states.delete(state)) shown_states.add(state);
-  if (!there.some((one) => shown_states.has(one))) there.forEach((one) => shown_states.add(one));
+  if (states_of_run().every((one) => shown_states.has(one))) show_states([state]);
+  else if (shown_states.has(state)) show_states([...shown_states].filter((one) => one !== state));
+  else show_states([...shown_states, state]);
+}
+
+function show_states(states) {
+  const there = states_of_run(), wanted = states.filter((one) => there.includes(one));
+  shown_states.clear();
+  (wanted.length ? wanted : there).forEach((one) => shown_states.add(one));
   for (const button of document.querySelectorAll("#states button")) {
     button.setAttribute("aria-pressed", String(shown_states.has(button.dataset.state)));
   }
@@ -166,6 +176,7 @@ function toggle_state(state) {
 
 function start_list() {
   draw_states();
+  document.getElementById("foot").append(link_button("this filter", words_for_filter));
   let waiting = 0;
   search.addEventListener("input", () => {
     clearTimeout(waiting);

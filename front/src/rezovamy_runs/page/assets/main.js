@@ -1,6 +1,6 @@
 // Which test is chosen, and the keys of the whole page.
 
-let chosen = null, waiting_address = 0;
+let chosen = null;
 const said = document.getElementById("said");
 
 function announce(text) {
@@ -15,6 +15,7 @@ function is_narrow() {
 // stays there.
 function choose(test, { from = "", attempt = null, quiet = false } = {}) {
   chosen = test;
+  if (from !== "address") keep_in_address(test, attempt, quiet);
   if (test) draw_test(test);
   else draw_run();
   document.body.classList.toggle("chosen", Boolean(test) && !quiet);
@@ -22,18 +23,18 @@ function choose(test, { from = "", attempt = null, quiet = false } = {}) {
   if (test) reveal_row(test);
   draw_rows();
   if (test && from !== "timeline") {
-    cursor = test.attempts.findLast((one) => one.slices.length) ?? cursor;
+    cursor = attempt ?? test.attempts.findLast((one) => one.slices.length) ?? cursor;
     reveal_test(test);
   } else redraw();
   if (!test) cursor = null;
   if (is_narrow() && test && !quiet) open_details();
-  if (attempt?.at) {
-    document.getElementById(`attempt-${attempt.at}`).scrollIntoView({ block: "nearest" });
-  }
-  // A key that is held chooses faster than browsers let an address change.
-  clearTimeout(waiting_address);
-  if (quiet) waiting_address = setTimeout(() => keep_in_address(test), 200);
-  else keep_in_address(test);
+  if (attempt && test.attempts.length > 1) show_attempt(attempt);
+}
+
+function show_attempt(attempt) {
+  const card = document.getElementById(`attempt-${attempt.at}`);
+  card.setAttribute("aria-current", "true");
+  if (attempt.at) card.scrollIntoView({ block: "nearest" });
 }
 
 // Goes to the outputs. In a narrow window they take the place of the list.
@@ -41,28 +42,6 @@ function open_details() {
   document.body.classList.add("chosen");
   details.focus();
   if (is_narrow()) scrollTo(0, 0);
-}
-
-// So that the address leads to the test again. A slash stands between its binary and its name,
-// since either may have `::`.
-function keep_in_address(test) {
-  try {
-    history.replaceState(null, "", test
-      ? `#${[test.place, test.name].map(encodeURIComponent).join("/")}`
-      : location.pathname + location.search);
-  } catch {
-    // Some browsers refuse that for files; the page works without.
-  }
-}
-
-function choose_by_address() {
-  try {
-    const [place, name] = location.hash.slice(1).split("/").map(decodeURIComponent);
-    const found = TESTS.find((test) => test.place === place && test.name === name);
-    if (found) choose(found, { from: "address" });
-  } catch {
-    // An address that isn't spelled well names no test.
-  }
 }
 
 function step_failure(steps) {
@@ -79,6 +58,7 @@ function escape() {
     refresh_list();
   } else if (details.contains(document.activeElement) && chosen && !is_narrow()) list.focus();
   else if (chosen) back_to_run();
+  else select(null);
 }
 
 function back_to_run() {
@@ -108,9 +88,9 @@ function page_key(event) {
 start_head();
 start_list();
 start_timeline();
-choose(null);
-choose_by_address();
-addEventListener("hashchange", choose_by_address);
+choose(null, { from: "address" });
+follow_address();
+addEventListener("hashchange", follow_address);
 addEventListener("resize", draw_rows);
 document.addEventListener("keydown", page_key);
 document.documentElement.dataset.ready = "yes";

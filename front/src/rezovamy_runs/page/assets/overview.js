@@ -1,8 +1,6 @@
-// What is told of the run where no test is chosen: failures first, then what was tried again, the
-// slowest tests, and binaries.
+// What is told of the run where no test is chosen: failures by their causes first, then what was
+// tried again, the slowest tests, and binaries.
 
-const FAILURES = TESTS.filter((test) => test.end === "failed" || test.end === "unfinished")
-  .sort(ORDERS.failures);
 const MOST_ITEMS = 50;
 
 function first_line(text) {
@@ -13,9 +11,15 @@ function why(test) {
   if (test.state === "failed" && !test.attempts.at(-1).bad) {
     return "it passed at a later attempt, which counts as a failure";
   }
-  const last = test.attempts.findLast((attempt) => attempt.bad || attempt.result === "unfinished");
+  const last = test.attempts.findLast((attempt) => attempt.bad || attempt.result === "unfinished")
+    ?? (ran_beside(test) ? test.attempts.at(-1) : null);
   if (!last) return "";
   return last.error ? first_line(last.error) : ending_of(last);
+}
+
+// Such a test ran in a process that another one crashed, and passed by itself.
+function ran_beside(test) {
+  return Boolean(test.attempts.at(-1)?.error?.startsWith("ran beside a crash"));
 }
 
 function item(test, { reason = "", bar = false } = {}) {
@@ -39,13 +43,54 @@ function item(test, { reason = "", bar = false } = {}) {
   return element("li", "", button);
 }
 
-function part(title, tests, options) {
-  if (!tests.length) return "";
+function items_of(tests, options) {
   const shown_items = tests.slice(0, MOST_ITEMS).map((test) => item(test, options(test)));
   const items = element("ul", "items", ...shown_items);
   const left = tests.length - MOST_ITEMS;
   if (left > 0) items.append(element("li", "more", `${whole(left)} more are in the list`));
-  return element("section", "", element("h3", "", title), items);
+  return items;
+}
+
+function part(title, tests, options) {
+  if (!tests.length) return "";
+  return element("section", "", element("h3", "", title), items_of(tests, options));
+}
+
+const SHARED = "One of these tests crashed the process, or several did. The others ran beside it.";
+
+// A cause of several tests is closed where there are many, so that all causes are in sight.
+function cause_of_several({ title, tests, is_shared }) {
+  const count = element("b", "", whole(tests.length));
+  const told = titled(element("span", "name", safe_nodes(title)), title);
+  const summary = element("summary", "", state_mark(tests[0].end), count, " ", told);
+  const group = element("details", "cause", summary);
+  group.setAttribute("aria-label", `${plural(tests.length, "test")}: ${shown(title)}`);
+  if (is_shared) group.append(element("p", "beside", SHARED));
+  group.append(items_of(tests, (test) => ({ reason: why(test) })));
+  group.open = FAILURES.length <= 12;
+  return group;
+}
+
+// The failures in a state: those with a cause of their own are a list, the others a group each.
+function failures(words, is_wanted) {
+  const causes = CAUSES.map((cause) => ({ ...cause, tests: cause.tests.filter(is_wanted) }))
+    .filter(({ tests }) => tests.length);
+  const count = causes.reduce((sum, { tests }) => sum + tests.length, 0);
+  if (!count) return "";
+  const several = causes.filter(({ tests }) => tests.length > 1).map(cause_of_several);
+  const alone = causes.filter(({ tests }) => tests.length === 1).flatMap(({ tests }) => tests);
+  const told = several.length ? `, ${plural(causes.length, "cause")}` : "";
+  const list = alone.length ? items_of(alone, (test) => ({ reason: why(test) })) : "";
+  return element("section", "", element("h3", "", words(count) + told), ...several, list);
+}
+
+function all_failures() {
+  const is_test = (state) => (test) => test.state === state;
+  return [
+    failures((count) => `${whole(count)} failed`, is_test("failed")),
+    failures((count) => `${whole(count)} unfinished`, is_test("unfinished")),
+    failures((count) => `${plural(count, "setup script")} failed`, is_test("script")),
+  ];
 }
 
 function line_of_binary(name, sum, states) {
@@ -106,15 +151,17 @@ function about_run() {
     ["Bundle", run.bundle],
   ];
   const about = element("dl", "about");
-  for (const [name, value] of facts) {
-    if (value) about.append(element("dt", "", name), fact_of_run(value));
+  facts.push(...RUN.facts.map(({ name, text, link }) => [name, text, link]));
+  for (const [name, value, link] of facts) {
+    if (value) about.append(element("dt", "", safe_nodes(name)), fact_of_run(value, link));
   }
   return element("section", "", element("h3", "", "This run"), about);
 }
 
 // What is too long for some lines is whole in a field that scrolls.
-function fact_of_run(value) {
-  const made = element("dd", "", safe_nodes(value));
+function fact_of_run(value, link) {
+  const told = safe_nodes(value);
+  const made = element("dd", "", link ? web_link(link, told) : told);
   if (value.length > 500) made.tabIndex = 0;
   return made;
 }
@@ -122,13 +169,16 @@ function fact_of_run(value) {
 function draw_run() {
   const tests = TESTS.filter((test) => test.state !== "script" && test.attempts.length);
   const flaky = tests.filter((test) => test.state === "flaky");
+  const beside = tests.filter((test) => test.state === "passed" && ran_beside(test));
   const slowest = [...tests].sort(ORDERS.slowest).slice(0, 10);
-  const warnings = RUN.notes.map((note) => element("p", "warning", note));
+  const notes = [missing, ...RUN.notes].filter(Boolean);
+  const warnings = notes.map((note) => element("p", "warning", note));
   const with_reason = (test) => ({ reason: why(test) });
   details.replaceChildren(
     ...warnings,
-    part("Failures", FAILURES, with_reason),
-    part("Passed when tried again", flaky, with_reason),
+    ...all_failures(),
+    part(`${whole(flaky.length)} flaky, passed when tried again`, flaky, with_reason),
+    part(`${whole(beside.length)} ran beside a crash, and passed alone`, beside, with_reason),
     element("div", "pair",
       part("Slowest tests", slowest, () => ({ bar: true })),
       element("div", "", table_of_binaries(), about_run())),

@@ -3,6 +3,7 @@
 const overview = document.getElementById("overview");
 const tip = document.getElementById("tip");
 const STRIP = 26;
+const SCRIPT_TIMES = ATTEMPTS.filter((one) => one.is_script).flatMap((one) => one.slices);
 let running = [];
 
 // How many tests ran in each piece of the run, a piece for two pixels.
@@ -43,18 +44,41 @@ function draw_overview() {
     context.fillStyle = paint.edge;
     if (count) context.fillRect(left, STRIP - 3 - high, piece + 0.5, 1);
   });
-  for (const attempt of ATTEMPTS) {
-    if (!["failed", "retried", "unfinished"].includes(attempt.kind)) continue;
-    context.fillStyle = attempt.kind === "failed" ? paint.strong : paint.edges[attempt.kind];
-    for (const [from, to] of attempt.slices) {
-      context.fillRect(strip_x(from), STRIP - 8, Math.max(2, strip_x(to) - strip_x(from)), 5);
-    }
-  }
+  draw_strip_bands(context);
+  draw_strip_marks(context);
   context.fillStyle = paint.faint;
   context.font = FONT;
   context.textBaseline = "middle";
   if (gutter >= 70) context.fillText("running", 16, STRIP / 2 + 2);
   if (view.to - view.from < WHOLE * 0.999) draw_window(context);
+}
+
+// Pauses are hatched, as below, and setup scripts and the selected time have their colours.
+function draw_strip_bands(context) {
+  const band = (from, to, style, alpha) => {
+    context.globalAlpha = alpha;
+    context.fillStyle = style;
+    context.fillRect(strip_x(from), 2, Math.max(1, strip_x(to) - strip_x(from)), STRIP - 5);
+    context.globalAlpha = 1;
+  };
+  for (const [from, to] of PAUSES) band(from, to, paint.hatch, 1);
+  for (const [from, to] of SCRIPT_TIMES) band(from, to, paint.edges.script, 0.3);
+  if (selection) band(selection.from, selection.to, paint.accent, 0.25);
+}
+
+// Retries come first, so that no mark hides that of a failure, which is as high as the strip.
+function draw_strip_marks(context) {
+  for (const kind of ["retried", "unfinished", "failed"]) {
+    context.fillStyle = kind === "failed" ? paint.strong : paint.edges[kind];
+    const high = kind === "failed" ? STRIP - 5 : 7;
+    for (const { slices } of ATTEMPTS.filter((one) => one.kind === kind)) {
+      for (const [from, to] of slices) {
+        const left = Math.round(strip_x(from)), wide = Math.round(strip_x(to)) - left;
+        if (wide > 6) context.fillRect(left, STRIP - 3 - high, wide, 5);
+        else context.fillRect(left, STRIP - 3 - high, 2, high);
+      }
+    }
+  }
 }
 
 function draw_window(context) {
@@ -102,18 +126,21 @@ function leave() {
   redraw();
 }
 
-// A drag moves what is seen; a press without one chooses.
+// A drag with the mouse selects time; by touch or with Shift it moves what is seen. A press without
+// a drag chooses.
 function drag_from(event) {
   if (event.button) return;
   const from = { x: event.clientX, view: { ...view } };
+  const moves = event.pointerType === "touch" || event.shiftKey;
+  const { left } = canvas.getBoundingClientRect();
   let moved = false;
   const move = (later) => {
     const shift = later.clientX - from.x;
     moved ||= Math.abs(shift) > 4;
     if (!moved) return;
-    const by = -shift / (width - gutter) * (from.view.to - from.view.from);
     show_tip(null);
-    look(from.view.from + by, from.view.to + by);
+    if (moves) move_view(from.view, shift);
+    else select_between(from.x - left, later.clientX - left);
   };
   const up = (later) => {
     canvas.removeEventListener("pointermove", move);
@@ -123,6 +150,11 @@ function drag_from(event) {
   canvas.addEventListener("pointermove", move);
   canvas.addEventListener("pointerup", up, { once: true });
   canvas.addEventListener("pointercancel", up, { once: true });
+}
+
+function move_view(from, shift) {
+  const by = -shift / (width - gutter) * (from.to - from.from);
+  look(from.from + by, from.to + by);
 }
 
 function press(event) {
@@ -185,6 +217,7 @@ function lanes_key(event) {
   if (event.key === "+" || event.key === "=") zoom(0.6);
   else if (event.key === "-" || event.key === "_") zoom(1 / 0.6);
   else if (event.key === "0" || event.key === "Home") look(0, WHOLE);
+  else if (event.key === "s") select({ ...view });
   else if (event.key.startsWith("Arrow")) step_lanes(event.key);
   else if (event.key === "Enter" && chosen) open_details();
   else return;
@@ -215,11 +248,15 @@ function start_timeline() {
   overview.addEventListener("pointermove", (event) => { if (event.buttons) strip_move(event); });
   lanes.addEventListener("keydown", lanes_key);
   start_buttons();
+  start_selection();
   draw_legend();
   set_rows("slot");
 }
 
 function start_buttons() {
+  const words = () => words_for_stretch(selection ?? view);
+  const link = link_button("this stretch of the timeline", words);
+  document.getElementById("time-link").append(link);
   for (const button of row_buttons) {
     button.addEventListener("click", () => set_rows(button.dataset.rows));
   }

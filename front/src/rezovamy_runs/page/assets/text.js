@@ -15,18 +15,18 @@ function plural(number, one, several = `${one}s`) {
   return `${whole(number)} ${number === 1 ? one : several}`;
 }
 
+// A length of time as the terminal has it, `0.012s`, `3.4s`, `2m 05s`, `1h 02m`; what would be
+// `0.000s` there is in microseconds.
 function duration(seconds) {
   if (seconds === null || seconds === undefined) return "–";
   const sign = seconds < 0 ? "−" : "", size = Math.abs(seconds);
-  if (size === 0) return "0 s";
-  if (size < 0.5e-6) return "< 1 µs";
-  if (size < 0.0009995) return `${sign}${(size * 1e6).toFixed(0)} µs`;
-  const digits = size < 0.00995 ? 2 : 3;
-  if (size < 0.9995) return `${sign}${(size * 1e3).toPrecision(digits).replace(/\.0+$/, "")} ms`;
-  if (size < 9.995) return `${sign}${size.toFixed(2)} s`;
-  if (size < 59.95) return `${sign}${size.toFixed(1)} s`;
+  if (size > 0 && size < 0.5e-6) return "< 1µs";
+  if (size > 0 && size < 0.0005) return `${sign}${(size * 1e6).toFixed(0)}µs`;
+  if (size < 1) return `${sign}${size.toFixed(3)}s`;
+  if (size < 59.95) return `${sign}${size.toFixed(1)}s`;
   const all = Math.round(size), hours = Math.floor(all / 3600), minutes = Math.floor(all / 60) % 60;
-  return sign + (hours ? `${hours} h ${minutes} min` : `${minutes} min ${all % 60} s`);
+  const two = (number) => String(number).padStart(2, "0");
+  return sign + (hours ? `${hours}h ${two(minutes)}m` : `${minutes}m ${two(all % 60)}s`);
 }
 
 function bytes(size) {
@@ -44,6 +44,8 @@ const SPELLED = String.raw`\r(?!\n)|[${CONTROLS}${UNSEEN}]|\x1b(?!\[[0-9;]*m)`;
 const SPECIAL = new RegExp(
   String.raw`\x1b\[([0-9;]*)m|[\udc80-\udcff]+|(?:${SPELLED})+`, "gu",
 );
+
+const SPECIAL_TEXT = new RegExp(SPECIAL.source, "u");
 
 function spelled(text) {
   return Array.from(text, (one) => {

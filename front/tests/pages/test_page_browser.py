@@ -3,18 +3,13 @@
 from __future__ import annotations
 
 import base64
-import dataclasses
-import pathlib
 import re
-from collections.abc import Iterator
 
 import pytest
 
-from rezovamy_runs.page import document
-from tests import EXAMPLES, browser
-from tests.browser import Browser, NEXT_FRAME, Json
+from tests import EXAMPLES
+from tests.browser import NEXT_FRAME, Json
 from tests.made import (
-    bundle_of,
     event,
     exit_code,
     failed,
@@ -24,117 +19,12 @@ from tests.made import (
     started,
     status,
 )
+from tests.opened_page import Page
 from tests.page_sessions import many_tests, nasty_session, with_binary
 
 pytestmark = pytest.mark.browser
 
-READY = "document.documentElement.dataset.ready === 'yes'"
-NAMES = "[...document.querySelectorAll('.row .name')].map((name) => name.textContent)"
 SUMS = (EXAMPLES / "sums.session").read_text()
-
-
-@dataclasses.dataclass
-class Page:
-    """A page of a run in a browser, which complains of nothing and asks for nothing but itself."""
-
-    browser: Browser
-    folder: pathlib.Path
-    address: str = ""
-
-    def open(self, session: str, wide: int = 1400, high: int = 900, dark: bool = False) -> None:
-        """Open the page of a session in a window of this size."""
-        bundle, path = self.folder / "run.bundle", self.folder / "page.html"
-        bundle.write_bytes(bundle_of(session))
-        path.write_text(document.page_of(bundle))
-        self.browser.events.clear()
-        self.browser.open(path, wide, high, dark)
-        self.browser.wait_until(READY)
-        self.address = path.as_uri()
-
-    def evaluate(self, code: str) -> object:
-        """Return the value of an expression in the page."""
-        return self.browser.evaluate(code)
-
-    def number(self, code: str) -> float:
-        """Return the number that an expression is."""
-        value = self.evaluate(code)
-        assert isinstance(value, (int, float))
-        return value
-
-    def texts(self, code: str) -> list[str]:
-        """Return the texts that an expression is."""
-        value = self.evaluate(code)
-        assert isinstance(value, list)
-        return [str(text) for text in value]
-
-    def member(self, selector: str, name: str) -> str:
-        """Return a member of the first element that a selector finds, which has to be a text."""
-        value = self.evaluate(f"document.querySelector('{selector}').{name}")
-        assert isinstance(value, str)
-        return value
-
-    def inner(self, selector: str) -> str:
-        """Return what is seen of the text of an element."""
-        return self.member(selector, "innerText")
-
-    def content(self, selector: str) -> str:
-        """Return the text of an element."""
-        return self.member(selector, "textContent")
-
-    def style(self, selector: str, name: str) -> object:
-        """Return a style of an element, as it is drawn."""
-        return self.evaluate(f"getComputedStyle(document.querySelector('{selector}')).{name}")
-
-    def fits(self, wide: int) -> bool:
-        """Return whether the page is no wider than so many pixels."""
-        return self.number("document.documentElement.scrollWidth") <= wide
-
-    def rows(self) -> list[str]:
-        """Return the names in the rows of the list that are there."""
-        return self.texts(NAMES)
-
-    def details(self) -> str:
-        """Return what is seen of the details of a test or a run."""
-        return self.inner("#details")
-
-    def click(self, selector: str) -> None:
-        """Click on an element."""
-        self.evaluate(f"document.querySelector('{selector}').click()")
-
-    def focus(self, selector: str) -> None:
-        """Give the keyboard to an element."""
-        self.evaluate(f"document.querySelector('{selector}').focus()")
-
-    def box(self, selector: str) -> dict[str, float]:
-        """Return the sides of an element."""
-        code = f"document.querySelector('{selector}').getBoundingClientRect().toJSON()"
-        value = self.evaluate(code)
-        assert isinstance(value, dict)
-        return {side: float(number) for side, number in value.items()}
-
-    def search(self, text: str) -> None:
-        """Seek a text as somebody who types it, and go to the first test that is found."""
-        self.browser.press("/", 191, "/")
-        self.browser.write(text)
-        self.browser.press("Enter", 13, "\r")
-
-
-@pytest.fixture(scope="module")
-def chromium() -> Iterator[Browser]:
-    """Yield a browser for all tests here."""
-    program = browser.find()
-    assert program is not None
-    with browser.opened(program) as opened:
-        yield opened
-
-
-@pytest.fixture
-def page(chromium: Browser, tmp_path: pathlib.Path) -> Iterator[Page]:
-    """Yield a page that is opened with a session."""
-    made = Page(chromium, tmp_path)
-    yield made
-    assert chromium.complaints() == []
-    assert chromium.requests() == [made.address]
 
 
 def test_a_failing_test_is_found_and_its_output_seen(page: Page) -> None:
@@ -203,7 +93,7 @@ def test_a_setup_script_that_failed_is_a_failure(page: Page) -> None:
     assert page.rows() == ["database", "passes"]
     page.browser.press("n", text="n")
     told = page.details().split("\n")
-    assert [one for one in told if one][1:4] == ["✕", "database", "setup script"]
+    assert [one for one in told if one][1:5] == ["✕", "database", "Copy link", "setup script"]
     assert "failed, exit code 3" in told
     page.click("[data-state=script]")
     assert page.inner("#found") == "0 of 1 shown"
@@ -228,7 +118,7 @@ def test_what_could_turn_the_name_of_a_row_is_shown(page: Page) -> None:
     page.focus("#lanes")
     page.browser.press("ArrowRight", 39)
     said = page.content("#said")
-    assert said == r"t\u{202e}, a\u{202e}b\x00, passed, 1.00 s, a\u{202e}b\x00 0"
+    assert said == r"t\u{202e}, a\u{202e}b\x00, passed, 1.0s, a\u{202e}b\x00 0"
 
 
 def test_attempts_are_shown_in_their_order(page: Page) -> None:
@@ -237,11 +127,11 @@ def test_attempts_are_shown_in_their_order(page: Page) -> None:
     headers = "[...document.querySelectorAll('.attempt > header')]"
     titles = page.texts(f"{headers}.map((header) => header.innerText)")
     assert [" ".join(title.split()) for title in titles] == [
-        "Attempt 1 of 3 failed, exit code 101 1.00 s from 1.00 s slot 1",
-        "Attempt 2 of 3 passed 1.00 s from 6.00 s slot 3",
+        "Attempt 1 of 3 failed, exit code 101 1.0s from 1.0s slot 1 Copy link",
+        "Attempt 2 of 3 passed 1.0s from 6.0s slot 3 Copy link",
     ]
     page.search("hangs")
-    assert "never ended\nfrom 1.50 s, without 2.00 s of pause" in page.details()
+    assert "never ended\nfrom 1.5s, without 2.0s of pause" in page.details()
 
 
 def test_a_test_that_fails_though_it_passed_says_why(page: Page) -> None:
@@ -285,7 +175,7 @@ def test_the_keyboard_goes_everywhere(page: Page) -> None:
     page.focus("#lanes")
     page.browser.press("ArrowRight", 39)
     said = page.content("#said")
-    assert said.strip() == "tests::adds, sums, passed, 7 µs, slot 0"
+    assert said.strip() == "tests::adds, sums, passed, 7µs, slot 0"
 
 
 def test_a_key_that_is_held(page: Page) -> None:
@@ -479,7 +369,7 @@ def test_a_narrow_window_shows_the_attempt_that_was_clicked_on(page: Page) -> No
     box = page.box("#canvas")
     page.browser.click(box["right"] - 60, box["top"] + 32)
     page.browser.wait_until("document.getElementById('attempt-1')")
-    assert 0 < page.box("#attempt-1")["bottom"] <= 500
+    assert 0 < round(page.box("#attempt-1")["bottom"]) <= 500
 
 
 def test_the_order_of_tests_stands_in_their_column(page: Page) -> None:
@@ -515,13 +405,6 @@ def test_on_paper(page: Page) -> None:
     # The list has a row of some pixels for each test, of which paper has those in sight.
     assert len(re.findall(rb"/Type ?/Page\b", printed)) < 10
     assert page.evaluate("themes") == ["light", "dark"]
-
-
-@pytest.fixture
-def paper(page: Page) -> Iterator[Page]:
-    """Yield a page that can be seen as on paper; the next one is seen on a screen again."""
-    yield page
-    page.browser.ask("Emulation.setEmulatedMedia", media="")
 
 
 def test_an_output_is_whole_on_paper(paper: Page) -> None:
