@@ -145,29 +145,34 @@ def opened(folder: pathlib.Path) -> Database:
     return PostgresDatabase(url)
 
 
-def span(seconds: float) -> dict[str, int]:
-    """Return a length of time as a session has it."""
-    nanos = round(seconds * 10**9)
-    return {"secs": nanos // 10**9, "nanos": nanos % 10**9}
-
-
 def session(number: int, outcomes: Outcomes) -> Iterator[str]:
     """Return the lines of the session of a run, of the tests that passed or failed."""
     from tests import made
 
+    at = EVERY * number
     passed = sum(outcome.is_good for outcome in outcomes.values())
     failed = sum(outcome.has_failed for outcome in outcomes.values())
-    ended = made.completed(passed, failed, 101 if failed else 0)
-    yield json.dumps({**HEAD, **made.HEAD, "run-id": run_id(number), "status": ended})
-    yield json.dumps(made.run_started(0))
+    suites: dict[str, list[str]] = {}
+    for test in outcomes:
+        suites.setdefault(test.binary, []).append(test.test)
+    head = {
+        "run-id": run_id(number),
+        "status": made.completed(passed, failed, 101 if failed else 0),
+        "started-at": made.instant(at),
+        "last-written-at": made.instant(at + 60),
+        "duration": made.span(60),
+        "test-list": {"suites": suites},
+    }
+    yield json.dumps({**made.HEAD, **HEAD, **head})
+    yield json.dumps({**made.run_started(at), "run-id": run_id(number)})
     for test, outcome in outcomes.items():
         if outcome.is_good or outcome.has_failed:
             result = "pass" if outcome.is_good else made.exit_code()
-            attempt = made.status(1, outcome.seconds, result, stdout=b"running\n", stderr=b"")
+            attempt = made.status(at + 1, outcome.seconds, result, stdout=b"running\n", stderr=b"")
             named = {"test-instance": {"binary-id": test.binary, "test-name": test.test}}
-            yield json.dumps({**made.started(1, test.test), **named})
-            yield json.dumps({**made.finished(2, test.test, attempt), **named})
-    yield json.dumps(made.run_finished(60, 60))
+            yield json.dumps({**made.started(at + 1, test.test), **named})
+            yield json.dumps({**made.finished(at + 2, test.test, attempt), **named})
+    yield json.dumps({**made.run_finished(at + 60, 60), "run-id": run_id(number)})
 
 
 def record(folder: pathlib.Path, runs: int, tests: int) -> None:
