@@ -10,5 +10,5 @@ TOP = Path(__file__).resolve().parent.parent
 PROGRAM = TOP / "crates/rezovamy/out/rezovamy"
 FRONT = TOP / "front"
 
-# The front end needn't be installed.
-sys.path[:0] = [str(FRONT / "src")]
+# The front end needn't be installed, and its tests have what makes and opens pages.
+sys.path[:0] = [str(FRONT / "src"), str(FRONT)]

@@ -107,6 +107,5 @@ def test_very_many_failures_are_closed_groups(page: Page) -> None:
 def test_a_narrow_window_shows_causes_in_the_list(page: Page) -> None:
     page.open(with_causes(), wide=420, high=900)
     assert page.fits(420)
-    shown = "alpha · panicked at tests/net.rs:5:9: no answer from port 80"
-    assert page.inner(".row .place") == shown
+    assert page.inner(".row .place") == "alpha · no answer from port 80"
     assert page.style(".item .why", "whiteSpace") == "normal"

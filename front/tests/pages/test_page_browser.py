@@ -386,6 +386,7 @@ def test_a_low_window_has_room_for_tests(page: Page) -> None:
 
 def test_many_tests(page: Page) -> None:
     page.open(many_tests())
+    assert (page.folder / "page.html").stat().st_size < 2_500_000
     assert page.inner("#headline") == "10 failed, 9,990 passed"
     assert page.number("document.querySelectorAll('*').length") < 1000
     page.search("test_1999")

@@ -71,7 +71,8 @@ function row_of(test, at, height, wanted) {
   const name = element("span", "name", marked_safely(test.name, wanted));
   name.title = test.shown;
   const place = element("span", "place", marked_safely(test.place, wanted));
-  const cause = test.end === "failed" ? why(test) : "";
+  // A narrow row has no room for where it panicked.
+  const cause = test.end === "failed" ? why(test).replace(/^panicked at \S+:\d+:\d+: /, "") : "";
   if (cause) place.append(element("span", "only-narrow", safe_nodes(` · ${cause}`)));
   const count = test.attempts.length;
   const tries = count > 1 ? element("span", "tries", `${count}×`) : null;
