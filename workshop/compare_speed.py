@@ -99,6 +99,7 @@ COMMANDS = (
     Command("report"),
     Command("slots"),
     Command("rerun"),
+    Command("view"),
     Command("upgrade", writes=True),
     Command("salvage", writes=True),
 )

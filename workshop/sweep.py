@@ -56,6 +56,7 @@ OTHERS: list[tuple[str, tuple[str, ...], bytes]] = [
     ("report", (), b'{"name":"nextest-run",'),
     ("slots", (), b"run="),
     ("rerun", (), b'{"parent-run-id":'),
+    ("view", (), b'{"begin":'),
 ]
 
 

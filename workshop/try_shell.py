@@ -69,6 +69,7 @@ READERS = (
     "report",
     "slots",
     "rerun",
+    "view",
 )
 PRINTERS = [
     *[f"rezovamy {words} < large" for words in READERS],

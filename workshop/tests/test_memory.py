@@ -33,6 +33,7 @@ READERS = (
     "report",
     "slots",
     "rerun",
+    "view",
     "upgrade written",
     "salvage written",
 )

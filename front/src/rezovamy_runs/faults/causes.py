@@ -36,6 +36,7 @@ TAKEN = {
     "report": LIMITS,
     "slots": LIMITS,
     "rerun": LIMITS,
+    "view": (*LIMITS, "--output"),
     "sample": (*DRAWING, "--max-output", *LIMITS),
     "upgrade": LIMITS,
     "salvage": LIMITS,

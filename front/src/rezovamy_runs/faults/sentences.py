@@ -265,12 +265,16 @@ SENTENCES: Mapping[str, str] = {
         "1 or more"
     ),
     "RecordRead FileNotFound file_name={file_name}": (
-        "the store of the bundle lacks the output {file_name}: take a whole copy; replay --output "
-        "skip does without outputs"
+        "the store of the bundle lacks the output {file_name}: take a whole copy; --output skip "
+        "does without outputs"
     ),
     "RecordRead FileTooLarge file_name={file_name} size={size} limit={limit}": (
         "the output {file_name} has {size} bytes, and {limit} may be read: the option --read-limit "
         "{size} allows it"
+    ),
+    "OutputChanged file_name={file_name}": (
+        "the bytes of the output {file_name} have changed since they were recorded: take another "
+        "copy of the bundle; --output skip does without outputs"
     ),
     "SuccessAsFailure": (
         "an attempt of a test follows one that passed, so there is no report: ask the tool that "

@@ -31,6 +31,11 @@ RECORDING = {
         "print which tests are to run again after the run in the bundle on standard input",
         (),
     ),
+    "view": (
+        "print each test of the bundle on standard input with its attempts, as JSON, "
+        "and the outputs behind it",
+        (),
+    ),
     "sample": ("record a generated session of N tests into BUNDLE", ("N", "BUNDLE")),
     "upgrade": (
         "write the bundle on standard input again into BUNDLE, as it would be recorded today",
