@@ -17,7 +17,7 @@ from rezovamy_runs.json_values import JsonObject
 from rezovamy_runs.report.run_text import name_of
 from rezovamy_runs.store import run_folder
 
-SUMMARY = "say of a test how it ended in each run, since when it fails, and how long it takes"
+SUMMARY = "say of a test how it ended in each run, since when it fails, and how long it ran"
 TAKES_REST = False
 MOST_RUNS = 1000
 # How many tests a part of a name may name.

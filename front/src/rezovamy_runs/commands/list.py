@@ -60,7 +60,7 @@ def add_options(parser: argparse.ArgumentParser) -> None:
         "--commit",
         type=matching(r"[0-9a-fA-F]+", str),
         metavar="COMMIT",
-        help="list only runs of this commit, or of those that begin so",
+        help="list only runs of this commit, or of commits that begin so",
     )
     parser.add_argument(
         "--since",
