@@ -240,7 +240,7 @@ const OTHERS: &[Case] = &[
 
 /// Runs with setup scripts.
 const SCRIPTS: &[Case] = &[
-    // one that isn't started is over after a pause, and one on the next row has no end
+    // a pause within one that could not be started, and another one that has no end
     (
         &[
             concat!(
