@@ -21,4 +21,5 @@ pub mod Passing
 pub mod GapsShown
 pub mod GapRuns
 pub mod AllSlices
+pub mod InstantsTold
 pub mod UnnamedSums

@@ -1,6 +1,7 @@
 -- What slices add up to.
 use Rattle.std.proofs.Common.{◌≡◌, ◌≤◌, ℕ, zero, suc, ◌+◌, ◌-◌, ℤ, pos, ◌+ℤ◌, ◌-ℤ◌, Bool, true}
-use Rattle.std.proofs.Common.{false, not, List, [], ◌∷◌, ◌++◌, map, refl, ap, sym, ◌∙◌}
+use Rattle.std.proofs.Common.{false, not, ◌&&◌, nat_lt, length, List, [], ◌∷◌, ◌++◌, map, refl}
+use Rattle.std.proofs.Common.{ap, sym, ◌∙◌}
 use Rattle.std.proofs.Common.{arith, Option, Some, None, if◌then◌else◌}
 use Rattle.std.proofs.lemmas.Int.{ints}
 use Rattle.std.proofs.lemmas.List.{map-append}
@@ -11,10 +12,10 @@ use Rattle.rec_slots.specs.Gaps.GapKind.{busy, idle, paused}
 use Rattle.rec_slots.specs.Gaps.{GapKind, gap_kind, time_in, time_of}
 use Rattle.rec_slots.specs.Gaps.{AddsUp}
 use Rattle.rec_view.specs.Laws.{SlicesAddUp}
-use Rattle.rec_view.specs.Slices.{close, stretches, lasting, moment, shown, active}
-use Rattle.rec_view.specs.Slices.{paused_for}
+use Rattle.rec_view.specs.Slices.{active, all_slices, close, in_pause, instant_if, lasting, moment}
+use Rattle.rec_view.specs.Slices.{paused_for, shown, slices, stretches}
 
-total-append : (xs ys : List ℤ) → total (xs ++ ys) ≡ total xs +ℤ total ys
+pub total-append : (xs ys : List ℤ) → total (xs ++ ys) ≡ total xs +ℤ total ys
 total-append [] ys = (let g : (y : ℤ) → y ≡ pos 0 +ℤ y = λ y. omega (arith, ints) in g (total ys))
 total-append (x ∷ xs) ys =
     ap (λ t. x +ℤ t) (total-append xs ys)
@@ -109,13 +110,49 @@ module _ (t : ℕ → ℤ) (passes : ℕ → Bool) where
       ap (λ x. x +ℤ time_in t (shown_kind passes) idle (a + n)) (no_idle a n)
       ∙ ap (λ x. pos 0 +ℤ x) (idle_in (a + n) (passes (a + n)) refl)
 
+slices_total : (history : List TraceInput) (a z : ℕ)
+    → total (map (lasting (moment history)) (slices history a z)) ≡ active history a z
+slices_total history a z =
+    sums (moment history) (shown history) None a (z - a)
+    ∙ (let g : (x : ℤ) → pos 0 +ℤ x ≡ x = λ x. omega (arith, ints) in g (active history a z))
+
+-- an instant has no length
+no_time : (t : ℕ → ℤ) (b : Bool) (i : ℕ) → total (map (lasting t) (instant_if b i)) ≡ pos 0
+no_time t true i =
+    (let g : (x : ℤ) → (x -ℤ x) +ℤ pos 0 ≡ pos 0 = λ x. omega (arith, ints) in g (t i))
+no_time t false i = refl
+
+-- so with the instants at a start and at an end in a pause
+pub all_slices_total : (history : List TraceInput) (a z : ℕ)
+    → total (map (lasting (moment history)) (all_slices history a z)) ≡ active history a z
+all_slices_total history a z =
+    ap total (map-append l (start ++ slices history a z) end)
+    ∙ total-append (map l (start ++ slices history a z)) (map l end)
+    ∙ ap (λ x. x +ℤ total (map l end)) (ap total (map-append l start (slices history a z))
+    ∙ total-append (map l start) (map l (slices history a z)))
+    ∙ (let g : (x y w v : ℤ) → x ≡ pos 0 → y ≡ v → w ≡ pos 0 → (x +ℤ y) +ℤ w ≡ v =
+    λ x y w v e f h. omega (arith, ints) in
+    g (total (map l start)) (total (map l (slices history a z))) (total (map l end))
+    (active history a z) (no_time (moment history) (in_pause history a) a)
+    (slices_total history a z)
+    (no_time (moment history) (nat_lt z (length history) && in_pause history z) z))
+  where
+    l : ℕ × ℕ → ℤ
+    l = lasting (moment history)
+
+    start : List (ℕ × ℕ)
+    start = instant_if (in_pause history a) a
+
+    end : List (ℕ × ℕ)
+    end = instant_if (nat_lt z (length history) && in_pause history z) z
+
 pub slices_sum : ((instant : ℕ → ℤ) (kind : ℕ → GapKind) (a n : ℕ)
     → AddsUp instant kind a n (time_of instant kind busy a n) (time_of instant kind paused a n)
     (time_of instant kind idle a n)) → (history : List TraceInput) (a z : ℕ) → a ≤ z
     → SlicesAddUp history a z
 slices_sum gaps history a z h = record {
-  sum = sums (moment history) (shown history) None a (z - a)
-      ∙ (let g : (x : ℤ) → pos 0 +ℤ x ≡ x = λ x. omega (arith, ints) in g (active history a z));
+  sum = slices_total history a z;
+  all = all_slices_total history a z;
   rest = let all = (gaps (moment history) (shown_kind (shown history)) a (z - a)).sum in
       let none = no_idle (moment history) (shown history) a (z - a) in
       let end : moment history (a + (z - a)) ≡ moment history z =

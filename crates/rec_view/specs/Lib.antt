@@ -11,6 +11,7 @@ pub mod Scripts
 pub mod ScriptsWalked
 pub mod Slices
 pub mod ShownGaps
+pub mod Instants
 pub mod Seen
 pub mod Open
 pub mod Rows

@@ -4,6 +4,7 @@
 
 mod acts;
 mod counts;
+mod instants;
 pub mod laws;
 mod scripts;
 mod shown_gaps;
@@ -14,6 +15,7 @@ mod view;
 mod walk;
 
 pub use counts::Counts;
+pub use instants::Instants;
 pub use scripts::ScriptView;
 pub use shown_gaps::{ShownGaps, Slice};
 pub use test_views::{Attempt, TestView};

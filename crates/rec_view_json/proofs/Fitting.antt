@@ -23,11 +23,13 @@ use Rattle.rec_view.proofs.ScriptPositions.{scripts_are}
 use Rattle.rec_view.specs.Acts as view_acts
 use Rattle.rec_view.specs.Acts.{Act, acts}
 use Rattle.rec_view.specs.Attempts.{attempt, cuts, end_of, retries, starts_of}
+use Rattle.rec_view.specs.declared.instants.Instants.{Instants}
 use Rattle.rec_view.specs.declared.scripts.ScriptView.{ScriptView}
 use Rattle.rec_view.specs.declared.shown_gaps.ShownGaps.{ShownGaps}
 use Rattle.rec_view.specs.declared.test_views.Attempt.{Attempt}
 use Rattle.rec_view.specs.declared.test_views.TestView.{TestView}
 use Rattle.rec_view.specs.Ends.{IsEnd}
+use Rattle.rec_view.specs.Instants.{TellsInstants}
 use Rattle.rec_view.specs.Rows.{Row, row, rows, rows_of}
 use Rattle.rec_view.specs.Scripts.{IsScript, cuts_script, script_act, script_acts, scripts}
 use Rattle.rec_view.specs.ShownGaps.{AreGaps}
@@ -72,13 +74,15 @@ history_many past [] = refl
 history_many past (e ∷ events) =
     ap suc (history_many (trace_input group.Slot (binaries past) e ∷ past) events)
 
-module _ (events : List RecordedEvent) (gaps : ShownGaps) (kept : AreGaps (history_of events) gaps)
+module _ (events : List RecordedEvent) (gaps : ShownGaps) (instants : Option Instants)
+    (kept : AreGaps (history_of events) gaps) (told : TellsInstants (history_of events) instants)
   where
     -- what starts at one of as many positions, and ends as it does there
     fits : (many k : ℕ) (o : Option ℕ) → many ≡ length events
-        → (k ≤ unwrap_or o many) × (unwrap_or o many ≤ many) → Fits events gaps k o
+        → (k ≤ unwrap_or o many) × (unwrap_or o many ≤ many) → Fits events gaps instants k o
     fits many k o same within = record {
       kept = kept;
+      told = told;
       many = kept.shown.many ∙ history_many [] (map plain events) ∙ length-map events plain;
       order = subst (λ n. k ≤ unwrap_or o n) same within.0;
       within = subst (λ n. unwrap_or o n ≤ n) same within.1;
@@ -87,14 +91,14 @@ module _ (events : List RecordedEvent) (gaps : ShownGaps) (kept : AreGaps (histo
     -- ---- setup scripts
 
     script_fits : (s : ScriptView) → IsScript (script_acts events) s
-        → Fits events gaps s.from s.to
+        → Fits events gaps instants s.from s.to
     script_fits s is =
         fits (length (script_acts events)) s.from s.to
         (length-map events (λ e. script_act (act_of (plain_kind e.kind))))
         (ends_within (cuts_script is.index) (script_acts events) s.from
         (slice_get_within (script_acts events) s.from _ is.starts) s.to is.ends)
 
-    pub scripts_fit : AllByRecursion (λ (s : ScriptView). Fits events gaps s.from s.to)
+    pub scripts_fit : AllByRecursion (λ (s : ScriptView). Fits events gaps instants s.from s.to)
         (scripts (script_acts events))
     scripts_fit =
         all_of (scripts (script_acts events))
@@ -103,14 +107,14 @@ module _ (events : List RecordedEvent) (gaps : ShownGaps) (kept : AreGaps (histo
     -- ---- attempts
 
     attempt_fits : (t : OwnedTestInstanceId) (k : ℕ) → k < length (acts events)
-        → Fits events gaps k (end_of (acts events) t k)
+        → Fits events gaps instants k (end_of (acts events) t k)
     attempt_fits t k h =
         let end = end_of (acts events) t k in
         fits (length (acts events)) k end (length-map events (λ e. view_acts.act_of e.kind))
         (ends_within (cuts t) (acts events) k h end (end_is (cuts t) (acts events) k))
 
     abbrev AttemptFits : Attempt → Type 0
-    AttemptFits a = Fits events gaps a.from a.to
+    AttemptFits a = Fits events gaps instants a.from a.to
 
     all_fit : (t : OwnedTestInstanceId) (ks : List ℕ) → AllBelow (length (acts events)) ks
         → AllByRecursion AttemptFits (map (attempt (acts events) t) ks)
@@ -134,7 +138,7 @@ module _ (events : List RecordedEvent) (gaps : ShownGaps) (kept : AreGaps (histo
 
     pub tests_fit : (xs : List TestView) → rows xs ≡ rows_of (acts events)
         → AllByRecursion
-        (λ (x : TestView). AllByRecursion (λ (a : Attempt). Fits events gaps a.from a.to)
+        (λ (x : TestView). AllByRecursion (λ (a : Attempt). Fits events gaps instants a.from a.to)
         x.attempts.items)
         xs
     tests_fit xs e =

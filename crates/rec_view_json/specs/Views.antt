@@ -1,7 +1,8 @@
 -- The JSON of a view.
 use Rattle.std.specs.Option.{unwrap_or}
-use Rattle.std.specs.Prelude.{◌-◌, ◌^◌, ℕ, nat_lt, Bool, List, [], ◌∷◌, codes, filter_map, length}
-use Rattle.std.specs.Prelude.{map, Option, Some, None, option_and_then, option_map, if◌then◌else◌}
+use Rattle.std.specs.Prelude.{◌-◌, ◌^◌, ℕ, ℤ, nat_lt, Bool, List, [], ◌∷◌, codes, filter_map}
+use Rattle.std.specs.Prelude.{length, map, Option, Some, None, option_and_then, option_map}
+use Rattle.std.specs.Prelude.{if◌then◌else◌}
 use Rattle.serde_json.specs.Data.{Data, array, string}
 use Rattle.serde_json.specs.View.{items_of}
 use Rattle.rec_events.specs.declared.events.TestEventKindSummary.{TestEventKindSummary}
@@ -10,7 +11,7 @@ use Rattle.rec_events.specs.declared.outputs.ZipStoreOutputDescription.{ZipStore
 use Rattle.rec_forms.specs.Instances.{retry_data_value, stress_index_value}
 use Rattle.rec_forms.specs.Lists.{list_value}
 use Rattle.rec_forms.specs.Outputs.{stored_outputs_value}
-use Rattle.rec_forms.specs.Shape.{field, natural, optional, struct}
+use Rattle.rec_forms.specs.Shape.{field, integer, natural, optional, struct}
 use Rattle.rec_forms.specs.Skipping.{mismatch_reason_value}
 use Rattle.rec_forms.specs.Times.{stamp_value}
 use Rattle.rec_codec.specs.Event.{RecordedEvent}
@@ -28,9 +29,10 @@ use Rattle.rec_view.specs.declared.test_views.Attempt.{Attempt}
 use Rattle.rec_view.specs.declared.verdicts.Verdict.TheVariants.{Passed, Flaky, Failed, Skipped}
 use Rattle.rec_view.specs.declared.verdicts.Verdict.TheVariants.{Unfinished, NotStarted}
 use Rattle.rec_view.specs.declared.verdicts.Verdict.{Verdict}
+use Rattle.rec_view.specs.Instants.{are_in_range, i64_of, instants}
 use Rattle.rec_view.specs.Rows.{Row, rows_of}
 use Rattle.rec_view.specs.Scripts.{script_acts, scripts}
-use Rattle.rec_view.specs.Slices.{all_slices, pauses}
+use Rattle.rec_view.specs.Slices.{active, all_slices, pauses}
 use Rattle.rec_view.specs.Tests.{verdicts}
 use Rattle.rec_view.specs.Unnamed.{unnamed}
 use Rattle.rec_view_json.specs.Told.{cancels, index_told, instant_at, is_slow, moment_at}
@@ -58,10 +60,18 @@ slices_value events from to =
     list_value (slice_value events)
     (all_slices (history_of events) from (unwrap_or to (length events)))
 
+-- for how long it is active, in microseconds, where a trace takes the instants of all events
+abbrev pub active_told : List RecordedEvent → ℕ → Option ℕ → Option ℤ
+active_told events from to =
+    if are_in_range (instants (history_of events))
+    then i64_of (active (history_of events) from (unwrap_or to (length events)))
+    else None
+
 unfoldable pub attempt_value : List RecordedEvent → Attempt → Data
 attempt_value events a =
     struct
-    (optional (codes "ended") stamp_value (option_and_then (instant_at events) a.to)
+    (optional (codes "active") integer (active_told events a.from a.to)
+    ∷ optional (codes "ended") stamp_value (option_and_then (instant_at events) a.to)
     ∷ optional (codes "retry-data") retry_data_value (told_at retry_told events a.from)
     ∷ field (codes "slices") (slices_value events a.from a.to)
     ∷ optional (codes "slot") natural (told_at slot_told events a.from)
@@ -75,7 +85,8 @@ attempt_value events a =
 unfoldable pub script_value : List RecordedEvent → ScriptView → Data
 script_value events s =
     struct
-    (optional (codes "ended") stamp_value (option_and_then (instant_at events) s.to)
+    (optional (codes "active") integer (active_told events s.from s.to)
+    ∷ optional (codes "ended") stamp_value (option_and_then (instant_at events) s.to)
     ∷ optional (codes "index") natural (told_at index_told events s.from)
     ∷ optional (codes "script-id") string (told_at script_told events s.from)
     ∷ field (codes "slices") (slices_value events s.from s.to)

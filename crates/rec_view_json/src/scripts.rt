@@ -7,12 +7,12 @@ ghost use Rattle.rec_view_json.specs.Told.{index_told, script_told, told_at};
 
 use crate::lists::ItemWriter;
 use crate::positions::{end_at, index_at, instant_at, script_at, script_status_at, stress_at};
-use crate::slices::with_slices;
+use crate::slices::{active_at, with_slices};
 use crate::statuses::with_script_status;
 use rec_events::{RecordingSpec, ScriptId, TestEventSummary};
 use rec_forms::ObjectWriter;
 use rec_json::JsonText;
-use rec_view::{ScriptView, ShownGaps};
+use rec_view::{Instants, ScriptView, ShownGaps};
 use std::alloc::{AllocError, Global};
 
 /// Writes setup scripts that stand among these events.
@@ -20,6 +20,7 @@ use std::alloc::{AllocError, Global};
 pub(crate) struct ScriptWriter<'e> {
     pub(crate) events: &'e [TestEventSummary<RecordingSpec>],
     pub(crate) gaps: &'e ShownGaps,
+    pub(crate) instants: &'e Option<Instants>,
 }
 
 /// Writes the name of a setup script, if there is one.
@@ -57,7 +58,7 @@ impl<'e> ItemWriter for ScriptWriter<'e> {
     type Item = ScriptView;
 
     ghost takes = { λ writer script.
-        Fits writer.events.now writer.gaps.now script.from script.to };
+        Fits writer.events.now writer.gaps.now writer.instants.now script.from script.to };
 
     ghost value_of = { λ writer script. script_value writer.events.now script };
 
@@ -74,7 +75,9 @@ impl<'e> ItemWriter for ScriptWriter<'e> {
         let started = instant_at(events, from);
         let status = script_status_at(events, item.to);
         let stress_index = stress_at(events, from);
+        let active = active_at(alloc, events, self.gaps, self.instants, item.from, item.to)?;
         let object = ObjectWriter::begin(alloc, text);
+        let object = object.optional(text, "active", &active);
         let object = object.optional(text, "ended", &ended);
         let object = with_name(object, text, events, from);
         let object = with_slices(object, alloc, text, events, self.gaps, item.from, item.to)?;

@@ -1,18 +1,23 @@
 //! Slices, each as the two instants between which it lasts.
-ghost use Rattle.std.specs.Prelude.{◌≡◌, [], ◌∷◌, codes, IfOk, OnOk, option_map, option_to_list, ⊤};
+ghost use Rattle.std.specs.Option.{unwrap_or};
+ghost use Rattle.std.specs.Prelude.{◌≡◌, ◌≤◌, [], ◌∷◌, codes, IfOk, OnOk, Option, length};
+ghost use Rattle.std.specs.Prelude.{option_map, option_to_list, ⊤};
 ghost use Rattle.rec_json.specs.Tokens.{with_items};
 ghost use Rattle.rec_forms.specs.ObjectWriting.{Writes};
 ghost use Rattle.rec_forms.specs.Shape.{field};
 ghost use Rattle.rec_forms.specs.Times.{stamp_value};
+ghost use Rattle.rec_view.specs.declared.instants.Instants.{Instants};
+ghost use Rattle.rec_view.specs.ShownGaps.{AreGaps, pairs};
+ghost use Rattle.rec_view.specs.Slices.{all_slices};
 ghost use Rattle.rec_view_json.specs.Fitting.{Fits};
-ghost use Rattle.rec_view_json.specs.Views.{slices_value};
+ghost use Rattle.rec_view_json.specs.Views.{active_told, history_of, slices_value};
 
 use crate::lists::{ItemWriter, SomeWriter, with_list, write_some};
 use crate::positions::moment_at;
 use rec_events::{RecordingSpec, Stamp, TestEventSummary};
 use rec_forms::{Form, ObjectWriter};
 use rec_json::JsonText;
-use rec_view::{ShownGaps, Slice};
+use rec_view::{Instants, ShownGaps, Slice};
 use std::alloc::{AllocError, Global};
 
 /// Writes the instants at positions among these events.
@@ -75,6 +80,25 @@ impl<'e> ItemWriter for SliceWriter<'e> {
     }
 }
 
+/// Cuts what lasts from one event to another, or past the last one, into slices.
+fn slices_of(
+    alloc: Global,
+    events: &[TestEventSummary<RecordingSpec>],
+    gaps: &ShownGaps,
+    from: u64,
+    to: Option<u64>,
+) -> Result<Vec<Slice>, AllocError>
+    requires kept { AreGaps (history_of events.now) gaps.now }
+    requires many { length gaps.now.shown.items ≡ length events.now }
+    requires order { from ≤ unwrap_or to (length events.now) }
+    requires within { unwrap_or to (length events.now) ≤ length events.now }
+    ensures { IfOk result (λ cut. pairs cut.items
+        ≡ all_slices (history_of events.now) from (unwrap_or to (length events.now))) }
+{
+    let to = to.unwrap_or(events.len() as u64) as usize;
+    gaps.slices(alloc, from as usize, to)
+}
+
 /// Writes the slices of what lasts from one event to another, or past the last one, as a field.
 pub(crate) fn with_slices(
     object: ObjectWriter,
@@ -85,12 +109,30 @@ pub(crate) fn with_slices(
     from: u64,
     to: Option<u64>,
 ) -> Result<ObjectWriter, AllocError>
-    requires { Fits events.now gaps.now from to }
+    requires { (told : Option Instants) × Fits events.now gaps.now told from to }
     ensures { IfOk result (λ w. Writes object text.old w text.new
         (field (codes "slices") (slices_value events.now from to) ∷ []) ⊤) }
 {
-    let to = to.unwrap_or(events.len() as u64) as usize;
-    let slices = gaps.slices(alloc, from as usize, to)?;
+    let slices = slices_of(alloc, events, gaps, from, to)?;
     let writer = SliceWriter { events };
     with_list(object, alloc, text, "slices", &writer, slices.as_slice())
+}
+
+/// Returns for how long what lasts from one event to another, or past the last one, is active.
+pub(crate) fn active_at(
+    alloc: Global,
+    events: &[TestEventSummary<RecordingSpec>],
+    gaps: &ShownGaps,
+    instants: &Option<Instants>,
+    from: u64,
+    to: Option<u64>,
+) -> Result<Option<i64>, AllocError>
+    requires { Fits events.now gaps.now instants.now from to }
+    ensures { IfOk result (λ time. time ≡ active_told events.now from to) }
+{
+    let Some(instants) = instants else {
+        return Ok(None);
+    };
+    let slices = slices_of(alloc, events, gaps, from, to)?;
+    Ok(instants.active(slices.as_slice()))
 }

@@ -8,7 +8,7 @@ use crate::positions::{reason_at, stress_at};
 use rec_events::{RecordingSpec, TestEventSummary};
 use rec_forms::ObjectWriter;
 use rec_json::JsonText;
-use rec_view::{ShownGaps, TestView, Verdict};
+use rec_view::{Instants, ShownGaps, TestView, Verdict};
 use std::alloc::{AllocError, Global};
 
 /// Writes tests of which these events tell.
@@ -16,6 +16,7 @@ use std::alloc::{AllocError, Global};
 pub(crate) struct TestWriter<'e> {
     pub(crate) events: &'e [TestEventSummary<RecordingSpec>],
     pub(crate) gaps: &'e ShownGaps,
+    pub(crate) instants: &'e Option<Instants>,
 }
 
 /// Names a verdict.
@@ -42,7 +43,8 @@ impl<'e> ItemWriter for TestWriter<'e> {
 
     ghost takes = { λ writer test.
         AllByRecursion (λ attempt.
-        Fits writer.events.now writer.gaps.now attempt.from attempt.to) test.attempts.items };
+        Fits writer.events.now writer.gaps.now writer.instants.now attempt.from attempt.to)
+        test.attempts.items };
 
     ghost value_of = { λ writer test. test_value writer.events.now (row_of test) };
 
@@ -51,6 +53,7 @@ impl<'e> ItemWriter for TestWriter<'e> {
         let attempts = AttemptWriter {
             events: self.events,
             gaps: self.gaps,
+            instants: self.instants,
         };
         let at = item.at as usize;
         let reason = reason_at(self.events, at);

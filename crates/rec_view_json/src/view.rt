@@ -9,6 +9,7 @@ ghost use Rattle.rec_forms.specs.Shape.{field, optional};
 ghost use Rattle.rec_forms.specs.Times.{stamp_value};
 ghost use Rattle.rec_view.specs.Acts.{acts};
 ghost use Rattle.rec_view.specs.Counts.{AreCounts};
+ghost use Rattle.rec_view.specs.Instants.{TellsInstants};
 ghost use Rattle.rec_view.specs.Rows.{rows, rows_of};
 ghost use Rattle.rec_view.specs.Scripts.{script_acts, scripts};
 ghost use Rattle.rec_view.specs.ShownGaps.{AreGaps};
@@ -29,7 +30,7 @@ use crate::tests::TestWriter;
 use rec_events::{RecordingSpec, TestEventSummary};
 use rec_forms::{Form, ObjectWriter};
 use rec_json::JsonText;
-use rec_view::{RunView, ShownGaps, view_events};
+use rec_view::{Instants, RunView, ShownGaps, view_events};
 use std::alloc::{AllocError, Global};
 
 /// Writes what a viewer wants to know of a run as compact JSON, as `docs/FORMATS.md#view` describes
@@ -83,14 +84,13 @@ fn write_view<R: Form>(
         (text.new ≡ text.old ++ value_tokens (view_value (R.value_of run.now) events.now)) }
 {
     let gaps = ShownGaps::new(alloc, events)?;
-    let result = write_object(alloc, text, run, events, view, &gaps);
+    let result = write_cut(alloc, text, run, events, view, &gaps);
     drop(gaps);
     result
 }
 
-/// Writes the object of a view.
-#[tactic(auto, unfolding(crate::specs::Views::view_value))]
-fn write_object<R: Form>(
+/// Writes what a view says of a run, whose gaps are known.
+fn write_cut<R: Form>(
     alloc: Global,
     text: &mut JsonText,
     run: &R,
@@ -106,13 +106,39 @@ fn write_object<R: Form>(
     ensures { OnOk result
         (text.new ≡ text.old ++ value_tokens (view_value (R.value_of run.now) events.now)) }
 {
+    let instants = Instants::new(alloc, events)?;
+    let result = write_object(alloc, text, run, events, view, gaps, &instants);
+    drop(instants);
+    result
+}
+
+/// Writes the object of a view.
+#[tactic(auto, unfolding(crate::specs::Views::view_value))]
+fn write_object<R: Form>(
+    alloc: Global,
+    text: &mut JsonText,
+    run: &R,
+    events: &[TestEventSummary<RecordingSpec>],
+    view: &RunView,
+    gaps: &ShownGaps,
+    instants: &Option<Instants>,
+) -> Result<(), AllocError>
+    requires tests { rows view.now.tests ≡ rows_of (acts events.now) }
+    requires scripts { view.now.scripts ≡ scripts (script_acts events.now) }
+    requires counts { AreCounts (verdicts (acts events.now)) view.now.counts }
+    requires unnamed { view.now.unnamed ≡ unnamed events.now }
+    requires gaps { AreGaps (history_of events.now) gaps.now }
+    requires instants { TellsInstants (history_of events.now) instants.now }
+    ensures { OnOk result
+        (text.new ≡ text.old ++ value_tokens (view_value (R.value_of run.now) events.now)) }
+{
     let object = ObjectWriter::begin(alloc, text);
     let object = with_ends(object, alloc, text, events, view)?;
     let object = with_pauses(object, alloc, text, events, gaps)?;
     let object = object.field(text, "run", run);
-    let object = with_scripts(object, alloc, text, events, view, gaps)?;
+    let object = with_scripts(object, alloc, text, events, view, gaps, instants)?;
     let object = with_some(object, alloc, text, "slow", &SlowWriter, events)?;
-    let object = with_tests(object, alloc, text, events, view, gaps)?;
+    let object = with_tests(object, alloc, text, events, view, gaps, instants)?;
     object.end(text)
 }
 
@@ -167,14 +193,20 @@ fn with_scripts(
     events: &[TestEventSummary<RecordingSpec>],
     view: &RunView,
     gaps: &ShownGaps,
+    instants: &Option<Instants>,
 ) -> Result<ObjectWriter, AllocError>
     requires scripts { view.now.scripts ≡ scripts (script_acts events.now) }
     requires gaps { AreGaps (history_of events.now) gaps.now }
+    requires instants { TellsInstants (history_of events.now) instants.now }
     ensures { IfOk result (λ w. Writes object text.old w text.new
         (field (codes "scripts")
         (list_value (script_value events.now) (scripts (script_acts events.now))) ∷ []) ⊤) }
 {
-    let writer = ScriptWriter { events, gaps };
+    let writer = ScriptWriter {
+        events,
+        gaps,
+        instants,
+    };
     with_list(
         object,
         alloc,
@@ -193,13 +225,19 @@ fn with_tests(
     events: &[TestEventSummary<RecordingSpec>],
     view: &RunView,
     gaps: &ShownGaps,
+    instants: &Option<Instants>,
 ) -> Result<ObjectWriter, AllocError>
     requires tests { rows view.now.tests ≡ rows_of (acts events.now) }
     requires gaps { AreGaps (history_of events.now) gaps.now }
+    requires instants { TellsInstants (history_of events.now) instants.now }
     ensures { IfOk result (λ w. Writes object text.old w text.new
         (field (codes "tests")
         (list_value (test_value events.now) (rows_of (acts events.now))) ∷ []) ⊤) }
 {
-    let writer = TestWriter { events, gaps };
+    let writer = TestWriter {
+        events,
+        gaps,
+        instants,
+    };
     with_list(object, alloc, text, "tests", &writer, view.tests.as_slice())
 }

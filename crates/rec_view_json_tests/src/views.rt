@@ -81,9 +81,10 @@ const ATTEMPTS: &[Case] = &[
             r#""retry-data":{"attempt":1,"total-attempts":2},"#,
             r#""slow-elapsed":{"nanos":0,"secs":9},$test$,"timestamp":$2$,"#,
             r#""will-terminate":false}],"#,
-            r#""tests":[{"attempts":[{"ended":$3$,"slices":[[$1$,$3$]],"slot":3,"started":$1$,"#,
+            r#""tests":[{"attempts":[{"active":2000000,"ended":$3$,"slices":[[$1$,$3$]],"slot":3,"#,
+            r#""started":$1$,"#,
             r#""status":$first$},"#,
-            r#"{"ended":$6$,"retry-data":{"attempt":2,"total-attempts":2},"#,
+            r#"{"active":2000000,"ended":$6$,"retry-data":{"attempt":2,"total-attempts":2},"#,
             r#""slices":[[$4$,$6$]],"slot":0,"started":$4$,"status":$second$}],"#,
             r#""binary-id":"b","test-name":"a","verdict":"flaky"}]}"#
         ),
@@ -120,7 +121,8 @@ const PAUSES: &[Case] = &[
         concat!(
             r#"{"begin":$1$,"cancelled":[],"counts":{$none$,"unfinished":1,"unnamed":0},"#,
             r#""end":$6$,"pauses":[[$2$,$4$],[$6$,$6$]],"run":7,"scripts":[],"slow":[],"#,
-            r#""tests":[{"attempts":[{"slices":[[$1$,$2$],[$4$,$6$]],"slot":0,"started":$1$}],"#,
+            r#""tests":[{"attempts":[{"active":3000000,"slices":[[$1$,$2$],[$4$,$6$]],"slot":0,"#,
+            r#""started":$1$}],"#,
             r#""binary-id":"b","test-name":"a","verdict":"unfinished"}]}"#
         ),
     ),
@@ -141,7 +143,8 @@ const PAUSES: &[Case] = &[
             r#"{"begin":$1$,"cancelled":[],"#,
             r#""counts":{"failed":0,"flaky":0,"not-started":0,"passed":1,"skipped":0,"#,
             r#""unfinished":0,"unnamed":0},"end":$3$,"pauses":[],"run":7,"scripts":[],"slow":[],"#,
-            r#""tests":[{"attempts":[{"ended":$3$,"slices":[[$1$,$3$]],"slot":0,"started":$1$,"#,
+            r#""tests":[{"attempts":[{"active":2000000,"ended":$3$,"slices":[[$1$,$3$]],"slot":0,"#,
+            r#""started":$1$,"#,
             r#""status":$second$}],"binary-id":"b","test-name":"a","verdict":"passed"}]}"#
         ),
     ),
@@ -163,9 +166,26 @@ const PAUSES: &[Case] = &[
             r#"{"begin":$1$,"cancelled":[],"#,
             r#""counts":{"failed":1,"flaky":0,"not-started":0,"passed":0,"skipped":0,"#,
             r#""unfinished":0,"unnamed":0},"end":$4$,"pauses":[[$1$,$4$]],"run":7,"scripts":[],"slow":[],"#,
-            r#""tests":[{"attempts":[{"ended":$3$,"slices":[[$2$,$2$],[$3$,$3$]],"slot":0,"#,
+            r#""tests":[{"attempts":[{"active":0,"ended":$3$,"slices":[[$2$,$2$],[$3$,$3$]],"slot":0,"#,
             r#""started":$2$,"status":$first$}],"#,
             r#""binary-id":"b","test-name":"a","verdict":"failed"}]}"#
+        ),
+    ),
+    // an instant that is no i64 in microseconds
+    (
+        &[
+            concat!(
+                r#"1 "kind":"test-started",$test$,"slot-assignment":{"global-slot":0,"#,
+                r#""test-group":"@global"},"current-stats":$stats$,$started$"#
+            ),
+            r#"9223372036855 "kind":"run-continued","setup-scripts-running":0,"running":1"#,
+            r#"6 "kind":"run-continued","setup-scripts-running":0,"running":1"#,
+        ],
+        concat!(
+            r#"{"begin":$1$,"cancelled":[],"counts":{$none$,"unfinished":1,"unnamed":0},"#,
+            r#""end":$6$,"pauses":[],"run":7,"scripts":[],"slow":[],"#,
+            r#""tests":[{"attempts":[{"slices":[[$1$,$6$]],"slot":0,"started":$1$}],"#,
+            r#""binary-id":"b","test-name":"a","verdict":"unfinished"}]}"#
         ),
     ),
 ];
@@ -220,7 +240,7 @@ const OTHERS: &[Case] = &[
 
 /// Runs with setup scripts.
 const SCRIPTS: &[Case] = &[
-    // one that isn't started is over after a pause, and one on the next row has no end
+    // a pause within one that could not be started, and another one that has no end
     (
         &[
             concat!(
@@ -241,10 +261,10 @@ const SCRIPTS: &[Case] = &[
         concat!(
             r#"{"begin":$1$,"cancelled":[],"counts":{$none$,"unfinished":0,"unnamed":0},"#,
             r#""end":$6$,"pauses":[[$2$,$4$]],"run":7,"#,
-            r#""scripts":[{"ended":$5$,"index":0,"script-id":"s","#,
+            r#""scripts":[{"active":2000000,"ended":$5$,"index":0,"script-id":"s","#,
             r#""slices":[[$1$,$2$],[$4$,$5$]],"started":$1$,"status":$script$,"#,
             r#""stress-index":{"current":0}},"#,
-            r#"{"index":1,"script-id":"t","slices":[[$6$,$6$]],"started":$6$}],"#,
+            r#"{"active":0,"index":1,"script-id":"t","slices":[[$6$,$6$]],"started":$6$}],"#,
             r#""slow":[],"tests":[]}"#
         ),
     ),

@@ -4,6 +4,8 @@
 #[cfg(test)]
 mod histories;
 #[cfg(test)]
+mod instants;
+#[cfg(test)]
 mod script_steps;
 #[cfg(test)]
 mod scripts;

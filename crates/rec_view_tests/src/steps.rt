@@ -258,19 +258,28 @@ fn kind(alloc: Global, step: Step) -> Result<TestEventKindSummary<LiveSpec>, All
     }
 }
 
-/// The events of these steps.
+/// The event of a step at an instant.
+pub(crate) fn event_of(
+    alloc: Global,
+    step: Step,
+    timestamp: Stamp,
+) -> Result<TestEventSummary<LiveSpec>, AllocError> {
+    let kind = kind(alloc, step)?;
+    Ok(TestEventSummary {
+        timestamp,
+        elapsed: NO_TIME,
+        kind,
+    })
+}
+
+/// The events of these steps, all at one instant.
 pub(crate) fn events_of(
     alloc: Global,
     steps: &[Step],
 ) -> Result<Vec<TestEventSummary<LiveSpec>>, AllocError> {
     let mut events = Vec::new(alloc);
     for step in steps {
-        let kind = kind(alloc, *step)?;
-        events.push(TestEventSummary {
-            timestamp: EPOCH,
-            elapsed: NO_TIME,
-            kind,
-        })?;
+        events.push(event_of(alloc, *step, EPOCH)?)?;
     }
     Ok(events)
 }

@@ -18,6 +18,5 @@ returns c =
     ((codes "slices", Some d) ∷ []) ⊤))
     (values_of_seen (slice_value events) pair c.as_slice.result.now
     (all_slices all from (unwrap_or c.args.to (length events)))
-    (ap pairs c.as_slice.ensures.value ∙ c.in_ok-slices.ensures all c.requires.kept
-    ∙ ap (all_slices all from) c.unwrap_or-to.ensures))
+    (ap pairs c.as_slice.ensures.value ∙ c.in_ok-slices.ensures))
     c.with_list.ensures

@@ -13,8 +13,10 @@ pub with_list-requires : goal.with_list-requires
 with_list-requires c =
     let events = c.args.events.now in
     let gaps = c.args.gaps.now in
-    subst (AllByRecursion (λ (s : ScriptView). Fits events gaps s.from s.to))
-    (sym (c.as_slice.ensures ∙ c.requires.scripts)) (scripts_fit events gaps c.requires.gaps)
+    let instants = c.args.instants.now in
+    subst (AllByRecursion (λ (s : ScriptView). Fits events gaps instants s.from s.to))
+    (sym (c.as_slice.ensures ∙ c.requires.scripts))
+    (scripts_fit events gaps instants c.requires.gaps c.requires.instants)
 
 pub returns : goal.returns
 returns c =

@@ -9,7 +9,8 @@ use Rattle.rec_view_json.specs.Views.{test_value}
 
 pub with_list-requires : goal.with_list-requires
 with_list-requires c =
-    tests_fit c.args.events.now c.args.gaps.now c.requires.gaps c.as_slice.result.now
+    tests_fit c.args.events.now c.args.gaps.now c.args.instants.now c.requires.gaps
+    c.requires.instants c.as_slice.result.now
     (ap rows c.as_slice.ensures ∙ c.requires.tests)
 
 pub returns : goal.returns

@@ -6,10 +6,12 @@ use Rattle.rec_view_json.specs.Views.{attempt_value}
 pub returns : goal.returns
 unfolding attempt_value
 returns c =
-    let all = c.optional-object.ensures ▸ c.optional-object-2.ensures ▸ c.in_ok-object.ensures ▸
-    c.optional-object-3.ensures ▸ c.optional-object-4.ensures ▸ c.in_ok-object-2.ensures in
+    let all = c.optional-object.ensures ▸ c.optional-object-2.ensures ▸ c.optional-object-3.ensures
+    ▸ c.in_ok-object.ensures ▸ c.optional-object-4.ensures ▸ c.optional-object-5.ensures ▸
+    c.in_ok-object-2.ensures in
     c.end.ensures.written _ _
     (λ ok. rw (
+      ← c.in_ok-active.ensures,
       ← c.end_at-ended.ensures,
       ← c.retry_at-retry.ensures,
       ← c.slot_at-slot.ensures,
