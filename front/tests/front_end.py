@@ -75,7 +75,7 @@ class FrontEnd:
 
     def use_program(self, lines: str) -> None:
         """Let these lines of a shell stand in place of the program."""
-        path = self.folder / "program"
+        path = self.runs.parent / "program"
         path.write_text(f"#!/bin/sh\n{lines}\n")
         path.chmod(0o755)
         self.environment["REZOVAMY"] = str(path)

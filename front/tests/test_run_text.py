@@ -196,7 +196,10 @@ def test_scripts_that_failed() -> None:
         ),
         (run_of(counts=Counts(passed=1)), "1 test in 3.0s: 1 passed"),
         (run_of(status="cancelled"), "0 tests in 3.0s: 0 passed; the run was broken off"),
-        (run_of(status="incomplete"), "0 tests in 3.0s: 0 passed; the run's end isn't known"),
+        (
+            run_of(status="incomplete"),
+            "0 tests in 3.0s: 0 passed; the recording stopped before the run ended",
+        ),
     ],
     ids=["all counts", "one test", "cancelled", "incomplete"],
 )

@@ -50,6 +50,8 @@ class Status(enum.StrEnum):
     STRESS_CANCELLED = "stress-cancelled"
     INCOMPLETE = "incomplete"
     UNKNOWN = "unknown"
+    # It goes on, which no bundle says.
+    RUNNING = "running"
 
 
 class Stream(enum.StrEnum):

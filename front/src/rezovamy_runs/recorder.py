@@ -8,14 +8,13 @@ import shutil
 import signal
 import subprocess
 from collections.abc import Sequence
-from typing import IO, Protocol
+from typing import IO
 
 from rezovamy_runs.bundles import bundle, bundle_file
 from rezovamy_runs.faults import file_kinds
 from rezovamy_runs.faults.causes import Call
 from rezovamy_runs.faults.explain import explain_or_show
 from rezovamy_runs.faults.fault import Fault
-from rezovamy_runs.store.run_folder import Store
 
 # The folder that holds the package's `src`: `front` of a clone, or `lib/rezovamy` of an
 # installation.
@@ -23,18 +22,6 @@ FRONT = pathlib.Path(__file__).resolve().parents[2]
 DEFAULT_LIMIT = 268435456
 
 Word = str | os.PathLike[str]
-
-
-class Session(Protocol):
-    """What a run is recorded from: lines of JSON, a line for each event."""
-
-    @property
-    def run_id(self) -> str:
-        """Return the id of the run."""
-
-    @property
-    def data(self) -> bytes:
-        """Return the lines."""
 
 
 def places() -> list[pathlib.Path]:
@@ -95,14 +82,34 @@ def run(
             check=False,
         )
     except OSError as error:
-        raise Fault(
-            f"{path} can't be run: {error.strerror}; build it anew, or name another in REZOVAMY"
-        ) from error
+        raise not_started(path, error) from error
     if done.returncode != 0:
         line = done.stderr.decode("utf-8", "replace").strip()
         begins = input[: file_kinds.MOST] if input is not None else begin_of(stdin)
         raise Fault(sentence(words, done.returncode, line, begins))
     return done.stdout or b""
+
+
+def start(words: Sequence[Word], kept: IO[bytes]) -> subprocess.Popen[bytes]:
+    """Start the program with pipes for its streams, and with a file that it keeps open."""
+    path = find()
+    try:
+        return subprocess.Popen(
+            [path, *words],
+            stdin=subprocess.PIPE,
+            stdout=subprocess.PIPE,
+            stderr=subprocess.PIPE,
+            pass_fds=[kept.fileno()],
+            start_new_session=True,
+        )
+    except OSError as error:
+        raise not_started(path, error) from error
+
+
+def not_started(path: pathlib.Path, error: OSError) -> Fault:
+    """Return the fault of a program that can't be started."""
+    do = "build it anew, or name another in REZOVAMY"
+    return Fault(f"{path} can't be run: {error.strerror}; {do}")
 
 
 def run_on_bundle(
@@ -149,30 +156,12 @@ def hear_signals() -> None:
             signal.signal(number, signal.default_int_handler)
 
 
-def record(store: Store, session: Session) -> pathlib.Path:
-    """Record a session, and return its bundle's path. After a fault the folder is as it was."""
-    with store.adding(session.run_id) as aside:
-        words = ["record", str(aside), *limits(3 * len(session.data))]
-        run(words, input=session.data, stdout=subprocess.DEVNULL)
-        refuse_empty(aside)
-    return store.path_of(session.run_id)
+def refuse_missing(path: pathlib.Path) -> None:
+    """Raise a fault if a bundle isn't there, or has no bytes.
 
-
-def record_stream(store: Store, run_id: str, stream: IO[bytes]) -> pathlib.Path:
-    """Record the session in a file, as `record` does."""
-    with store.adding(run_id) as aside:
-        words = ["record", str(aside), *limits(3 * os.fstat(stream.fileno()).st_size)]
-        run(words, stdin=stream, stdout=subprocess.DEVNULL)
-        refuse_empty(aside)
-    return store.path_of(run_id)
-
-
-def refuse_empty(path: pathlib.Path) -> None:
-    """Raise a fault if a bundle has no bytes.
-
-    A program that is another one may end well, and leave the file as it is made.
+    A program that is another one may end well, and write nothing.
     """
-    if not path.stat().st_size:
+    if not path.exists() or not path.stat().st_size:
         raise Fault(
             f"{find()} wrote no bundle: it isn't rezovamy, so name another program in REZOVAMY"
         )

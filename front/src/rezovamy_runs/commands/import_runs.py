@@ -88,6 +88,10 @@ def take(runs: Store, path: pathlib.Path) -> Outcome:
         return Outcome.UNREADABLE
     if runs.path_of(run_id).exists():
         return Outcome.THERE
-    with runs.noting(run_id, runs.notes(path)), runs.adding(run_id) as aside:
-        shutil.copyfile(path, aside)
+    known = runs.notes(path)
+    with runs.recording(run_id):
+        if known:
+            runs.note(run_id, known)
+        with runs.adding(run_id) as aside:
+            shutil.copyfile(path, aside)
     return Outcome.TAKEN

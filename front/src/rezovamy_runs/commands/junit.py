@@ -8,9 +8,11 @@ import dataclasses
 import pathlib
 
 from rezovamy_runs import recorder
+from rezovamy_runs.bundles import bundle
 from rezovamy_runs.command_line import add_run, options_of, print_out
 from rezovamy_runs.commands import junit_xml
 from rezovamy_runs.faults.fault import Fault
+from rezovamy_runs.report import stopped_run
 from rezovamy_runs.report.junit import Document, documents_of
 from rezovamy_runs.report.junit_elements import JunitWriter
 from rezovamy_runs.report.run_events import NoEvents, runs_of
@@ -83,12 +85,25 @@ def write(path: pathlib.Path, folder: pathlib.Path, fails: bool = False) -> int:
 
 
 def bundle_documents(path: pathlib.Path) -> list[Document]:
-    """Return the documents of the runs of a bundle, as the program reports them."""
-    report = recorder.run_on_bundle(["report"], path)
+    """Return the documents of the runs of a bundle, as the program reports them.
+
+    A run that was stopped is reported as if it had ended then.
+    """
     try:
-        return documents_of(report.decode(), runs_of(path.read_bytes()), JunitWriter())
+        with bundle.plain(path) as file:
+            data = file.read()
+        ended = stopped_run.with_end(data)
+        if ended is None:
+            return documents_of(reported(data), runs_of(data), JunitWriter())
+        runs = [stopped_run.as_stopped(run) for run in runs_of(ended)]
+        return documents_of(reported(ended), runs, JunitWriter())
     except (NoReport, NoEvents, UnicodeError) as error:
         raise Fault(f"the report of {path} can't be read: {error}; record the run again") from error
+
+
+def reported(data: bytes) -> str:
+    """Return the report of the bundle with these bytes."""
+    return recorder.run(["report", *recorder.limits(len(data))], input=data).decode()
 
 
 def remove_older(runs: run_folder.Store) -> None:

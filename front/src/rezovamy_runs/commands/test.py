@@ -18,7 +18,7 @@ from rezovamy_runs.bundles import bundle
 from rezovamy_runs.collecting import cargo_call, chosen_tests
 from rezovamy_runs.collecting.collect import BuildFailed
 from rezovamy_runs.collecting.cargo_line import manifest_of
-from rezovamy_runs.command_line import input_stream, options_of, print_out, whole
+from rezovamy_runs.command_line import input_stream, options_of, print_out, say, whole
 from rezovamy_runs.commands import junit as junit_command
 from rezovamy_runs.commands import page as page_command
 from rezovamy_runs.commands import note_options, run_options
@@ -33,7 +33,7 @@ from rezovamy_runs.runner.process_run import ProcessRun, Recordable
 from rezovamy_runs.runner.progress import Progress
 from rezovamy_runs.runner.rerun_plan import Plan
 from rezovamy_runs.runner.session_builder import Session, SessionBuilder
-from rezovamy_runs.store import run_folder
+from rezovamy_runs.store import run_folder, whole_session
 from rezovamy_runs.store.notes import RunNotes
 from rezovamy_runs.store.run_folder import Store
 from rezovamy_runs.streams.clock import Clock, arrival_clock, measured_clock
@@ -145,7 +145,11 @@ def outputs_of(words: argparse.Namespace, runs: Store, splits: bool) -> Outputs:
 def guarded_status(work: Callable[[], int]) -> int:
     """Do the work in a process of its own, so that no process is left; return its status."""
     status = guard.guarded(lambda: answer(work))
-    return status if status >= 0 else 128 - status
+    if status >= 0:
+        return status
+    ended = f"{recorder.signal_of(-status)} ended the run"
+    say(f"rezovamy-runs: {ended}: `rezovamy-runs list` has what was recorded of it")
+    return 128 - status
 
 
 Judge = Callable[[Recordable], int]
@@ -175,9 +179,9 @@ class Outputs:
 
     def keep(self, session: Session) -> int:
         """Record a session, print what came of it, and return the status of its tests."""
-        notes = self._notes_of(session.suites)
-        with self.runs.noting(session.run_id, notes):
-            return self._keep(session.status, lambda: recorder.record(self.runs, session))
+        with self.runs.recording(session.run_id):
+            self.runs.note(session.run_id, self._notes_of(session.suites))
+            return self._keep(session.status, lambda: whole_session.record(self.runs, session))
 
     def run(self, process_run: ProcessRun, judge: Judge = status_of) -> int:
         """Run tests as processes, record the run, and return what `judge` says of it.
@@ -186,24 +190,18 @@ class Outputs:
         """
         self.prepare()
         try:
-            made = process_run.run()
+            with self.runs.recording(process_run.run_id):
+                made = process_run.run(self.runs, self._notes_of)
+                self._keep(made.status, made.record)
         except BuildFailed as failed:
             return failed.status
-
-        def record() -> pathlib.Path:
-            with made.session() as stream:
-                return recorder.record_stream(self.runs, made.run_id, stream)
-
-        notes = dataclasses.replace(self._notes_of(made.suites), build_seconds=made.build_seconds)
-        with self.runs.noting(made.run_id, notes):
-            self._keep(made.status, record)
         return judge(made)
 
-    def _notes_of(self, suites: Suites) -> RunNotes:
+    def _notes_of(self, suites: Suites, build_seconds: float | None = None) -> RunNotes:
         """Return what is known of a run with these tests."""
         tests = sum(map(len, suites.values()))
         part = run_facts.part_of(self.notes, tests, self.is_chosen)
-        return dataclasses.replace(self.notes, part=part)
+        return dataclasses.replace(self.notes, part=part, build_seconds=build_seconds)
 
     def _keep(self, status: int, record: Callable[[], pathlib.Path]) -> int:
         """Record a run that ended with a status, and print what came of it."""

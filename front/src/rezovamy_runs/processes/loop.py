@@ -70,10 +70,15 @@ class Loop:
         for descriptor in list(self._waiting):
             self.close(descriptor)
 
-    def add(self, descriptor: int, call: Callable[[], object]) -> None:
-        """Call this whenever the descriptor can be read, or is at its end."""
-        self._epoll.register(descriptor, select.EPOLLIN)
+    def add(self, descriptor: int, call: Callable[[], object], what: int = select.EPOLLIN) -> None:
+        """Call this whenever the descriptor can be read (or written to), or is at its end."""
+        self._epoll.register(descriptor, what)
         self._waiting[descriptor] = call
+
+    def leave(self, descriptor: int) -> None:
+        """Wait for a descriptor no more, which stays open."""
+        if self._waiting.pop(descriptor, None):
+            self._epoll.unregister(descriptor)
 
     def close(self, descriptor: int) -> None:
         """Close a descriptor, and wait for it no more.

@@ -179,7 +179,7 @@ def ending_of(run: Run) -> str:
     """Return what else there is to say of how a run ended."""
     if run.status in CANCELLED:
         return "; the run was broken off"
-    return "; the run's end isn't known" if run.status in WITHOUT_END else ""
+    return "; the recording stopped before the run ended" if run.status in WITHOUT_END else ""
 
 
 def all_told(errors: Iterable[str], printed: str) -> bool:

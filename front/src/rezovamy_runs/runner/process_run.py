@@ -4,10 +4,9 @@ from __future__ import annotations
 
 import dataclasses
 import os
+import pathlib
 import uuid
-from collections.abc import Iterator, Sequence
-from contextlib import contextmanager
-from typing import IO
+from collections.abc import Callable, Sequence
 
 from rezovamy_runs.collecting import cargo_call, sharding, test_words
 from rezovamy_runs.collecting.collect import Collector, Listed, jobs_of
@@ -18,12 +17,14 @@ from rezovamy_runs.processes.jobs import Program, Script, Settings
 from rezovamy_runs.processes.loop import Loop
 from rezovamy_runs.processes.run import Run
 from rezovamy_runs.runner import missing_tests
+from rezovamy_runs.runner.live_recorder import LiveRecorder
 from rezovamy_runs.runner.process_progress import ProcessProgress
 from rezovamy_runs.runner.process_session import ProcessSession, RunName
 from rezovamy_runs.runner.rerun_plan import Plan
 from rezovamy_runs.runner.session_builder import members_of_rerun
-from rezovamy_runs.runner.session_file import SessionFile
-from rezovamy_runs.store.notes import Shard
+from rezovamy_runs.store.live_folder import LiveFolder
+from rezovamy_runs.store.notes import RunNotes, Shard
+from rezovamy_runs.store.run_folder import Store
 from rezovamy_runs.streams.session_json import HEAD
 from rezovamy_runs.streams.session_writer import NEXTEST_VERSION, Suites, length, moment
 
@@ -73,24 +74,16 @@ def slots_of(words: Sequence[str]) -> int:
 
 @dataclasses.dataclass(frozen=True)
 class Recordable:
-    """A run that ended: its session, its status, its tests by binary, and how long it was built."""
+    """A run that ended: its status, its tests by binary, its recording, and the last head."""
 
-    head: JsonObject
-    events: SessionFile
     status: int
     suites: Suites
-    build_seconds: float
+    recording: LiveRecorder
+    head: JsonObject
 
-    @property
-    def run_id(self) -> str:
-        """Return the id of the run."""
-        return str(self.head["run-id"])
-
-    @contextmanager
-    def session(self) -> Iterator[IO[bytes]]:
-        """Lend the session."""
-        with self.events.session(self.head) as stream:
-            yield stream
+    def record(self) -> pathlib.Path:
+        """Finish the recording, and return the path of the bundle."""
+        return self.recording.finish(self.head)
 
 
 class ProcessRun:
@@ -107,8 +100,16 @@ class ProcessRun:
         self._calls, self._options, self._plan = calls, options, plan
         self._name = RunName(str(uuid.uuid4()), profile, cli_args)
 
-    def run(self) -> Recordable:
-        """Collect the tests, run them, and return what is to be recorded."""
+    @property
+    def run_id(self) -> str:
+        """Return the id of the run."""
+        return self._name.run_id
+
+    def run(self, store: Store, known: Callable[[Suites, float], RunNotes]) -> Recordable:
+        """Collect the tests, run them, and record what happens; the recording is to be finished.
+
+        `known` says what to note of the run, by its tests and how long they were built.
+        """
         with Loop() as loop:
             collector = Collector(loop, asks_for_all=self._plan is not None)
             collected = [one for call in self._calls for one in collector.collect(call)]
@@ -117,43 +118,49 @@ class ProcessRun:
             if not listed:
                 nothing = "no test ran, so nothing is recorded"
                 raise Fault(f"{nothing}: see what stands above, and what was asked for", 1)
-            session, events = self._run_listed(loop, listed)
-        if self._plan:
-            forget_tests(self._plan, listed)
-        suites = suites_of(listed)
-        head = self._head(session, suites)
-        return Recordable(head, events, session.status, suites, collector.build_seconds)
+            if self._plan:
+                forget_tests(self._plan, listed)
+            store.note(self.run_id, known(suites_of(listed), collector.build_seconds))
+            return self._run_listed(loop, store, listed)
 
-    def _run_listed(
-        self, loop: Loop, listed: Sequence[Listed]
-    ) -> tuple[ProcessSession, SessionFile]:
-        """Run the tests, show what happens, and keep it."""
+    def _run_listed(self, loop: Loop, store: Store, listed: Sequence[Listed]) -> Recordable:
+        """Run the tests, show what happens, and record it."""
         jobs, scripts = jobs_of(listed), self._options.setup_scripts()
         skipped = [(one.binary.target.id, name) for one in listed for name in one.ignored]
         session = ProcessSession(self._name, jobs, skipped, len(scripts), loop.now())
-        events, progress = SessionFile(), ProcessProgress(len(jobs))
-        events.write(session.first_events())
+        suites, progress = suites_of(listed), ProcessProgress(len(jobs))
+        head = self._head(session, suites)
         settings = self._options.settings(self._calls[0])
-        for told in Run(loop, jobs, settings, scripts):
-            progress.show(told)
-            events.write(session.events(told))
-        return session, events
+        with LiveRecorder(loop, LiveFolder(store, self._name.run_id), head) as recording:
+            recording.write(session.first_events())
+            for told in Run(loop, jobs, settings, scripts):
+                progress.show(told)
+                recording.write(session.events(told))
+        return Recordable(session.status, suites, recording, {**head, **end_of(session)})
 
     def _head(self, session: ProcessSession, suites: Suites) -> JsonObject:
-        """Return the head of the session."""
+        """Return the head of the session, as far as it is known before the run ends."""
         name = self._name
         return {
             **HEAD,
             "run-id": name.run_id,
             "nextest-version": NEXTEST_VERSION,
-            "status": session.status_of_run(),
+            "status": {"status": "incomplete"},
             "started-at": moment(session.begin),
-            "last-written-at": moment(session.end),
-            "duration": length(session.end - session.begin),
+            "last-written-at": moment(session.begin),
             "test-list": {"suites": suites},
             "cli-args": name.cli_args,
             **(members_of_rerun(self._plan, suites) if self._plan else {}),
         }
+
+
+def end_of(session: ProcessSession) -> JsonObject:
+    """Return what the head of the session has besides once the run has ended."""
+    return {
+        "status": session.status_of_run(),
+        "last-written-at": moment(session.end),
+        "duration": length(session.end - session.begin),
+    }
 
 
 def suites_of(listed: Sequence[Listed]) -> Suites:

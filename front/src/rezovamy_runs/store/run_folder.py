@@ -10,18 +10,21 @@ import pathlib
 import re
 import shlex
 import time
-from collections.abc import Callable, Iterator
+from collections.abc import Callable, Iterable, Iterator
 
 from rezovamy_runs import formatting
 from rezovamy_runs.bundles import bundle, bundle_file
 from rezovamy_runs.command_line import say
 from rezovamy_runs.faults.fault import Fault
 from rezovamy_runs.model import Summary
-from rezovamy_runs.store import location, notes, whole_file
-from rezovamy_runs.store.notes import RunNotes, WrongNotes
+from rezovamy_runs.store import live_folder, location, notes, whole_file
+from rezovamy_runs.store.live_folder import LiveFolder, settle_all
+from rezovamy_runs.store.notes import Part, RunNotes, WrongNotes
 
 ASIDE, PAGE = ".aside", ".html"
 JUNIT = "rezovamy-junit"
+# The words for the last whole run, and for the last one of all.
+LAST, LAST_ANY = "last", "last-any"
 RUN_ID = re.compile(r"[0-9a-f]{8}(?:-[0-9a-f]{4}){3}-[0-9a-f]{12}")
 # A file in the folder once the runs in the target directory were named.
 TOLD = ".runs-in-target-told"
@@ -64,10 +67,25 @@ class Store:
 
     def ids(self) -> list[str]:
         """Return the ids of the runs, in the order of their letters."""
+        return sorted({one for ending in bundle_file.ENDINGS for one in self.names(ending)})
+
+    def names(self, ending: str) -> list[str]:
+        """Return the ids in the folder that have this ending, in the order of their letters."""
         if not self.folder.is_dir():
             return []
-        names = filter(bundle_file.is_named_so, os.listdir(self.folder))
-        return sorted(set(filter(RUN_ID.fullmatch, map(bundle_file.stem_of, names))))
+        names = (
+            name.removesuffix(ending) for name in os.listdir(self.folder) if name.endswith(ending)
+        )
+        return sorted(name for name in names if RUN_ID.fullmatch(name))
+
+    def all_ids(self) -> list[str]:
+        """Return the ids of all runs, also of those that go on, in the order of their letters."""
+        return sorted({*self.ids(), *(folder.run_id for folder in self.going_on)})
+
+    @functools.cached_property
+    def going_on(self) -> list[LiveFolder]:
+        """Return the folders of the runs that go on."""
+        return []
 
     def summaries(self, say: Callable[[str], object] | None = None) -> list[Summary]:
         """Return the runs, the latest first. An unreadable file is a fault, or a line for `say`."""
@@ -86,10 +104,12 @@ class Store:
     def find(self, word: str) -> pathlib.Path:
         """Return the bundle of the run that a word names.
 
-        The word is `last`, the beginning of the run's id, or the path of a bundle.
+        The word is `last`, `last-any`, the beginning of the run's id, or the path of a bundle.
         """
-        if word == "last":
+        if word == LAST:
             return self.last()
+        if word == LAST_ANY:
+            return self.path_of(self.by_start()[0])
         if is_bundle(word):
             return pathlib.Path(word)
         if bundle_file.is_named_so(word):
@@ -98,7 +118,7 @@ class Store:
             )
         found = self.matching(word)
         if len(found) == 1:
-            return self.path_of(found[0])
+            return self.path_of(self.ended(found[0]))
         if found:
             runs = f"{len(found)} runs, as of {found[0]} and {found[1]}"
             raise Fault(f"{word} is the beginning of {runs}: give more of it")
@@ -110,25 +130,61 @@ class Store:
     def names_run(self, word: str) -> bool:
         """Tell whether `find` takes a word for the name of a run, be it one or more."""
         is_path = is_bundle(word) or bundle_file.is_named_so(word)
-        return word == "last" or is_path or bool(self.matching(word))
+        return word in (LAST, LAST_ANY) or is_path or bool(self.matching(word))
 
     def matching(self, word: str) -> list[str]:
         """Return the ids that begin with a word, which may be in upper case."""
-        return [run_id for run_id in self.ids() if word and run_id.startswith(word.lower())]
+        return [run_id for run_id in self.all_ids() if word and run_id.startswith(word.lower())]
 
-    def last(self) -> pathlib.Path:
-        """Return the bundle of the run that started last; one that can't be read isn't it."""
+    def ended(self, run_id: str) -> str:
+        """Return the id of a run, which must have ended."""
+        if self.path_of(run_id).exists():
+            return run_id
+        how_far = "`rezovamy-runs list` shows how far it is"
+        raise Fault(f"run {run_id} goes on: look again once it has ended; {how_far}")
+
+    def by_start(self) -> list[str]:
+        """Return the ids of the readable runs, the latest first; it is a fault if none is there."""
         started = []
         for run_id in self.ids():
             with contextlib.suppress(Fault, FileNotFoundError):
                 started.append((bundle.read_start(self.path_of(run_id)), run_id))
         if not started:
             raise Fault(f"no run is in {self.folder}: record one with `rezovamy-runs test`")
-        return self.path_of(max(started)[1])
+        return [run_id for _, run_id in sorted(started, reverse=True)]
+
+    def last(self) -> pathlib.Path:
+        """Return the bundle of the last whole run, or of the last one if none is whole."""
+        runs = self.by_start()
+        found = next((run_id for run_id in runs if self.is_whole(run_id)), runs[0])
+        if found != runs[0]:
+            named = self.shortest(found)
+            say(
+                f"rezovamy-runs: {named} is the last whole run; `{LAST_ANY}` is a later part of one"
+            )
+        return self.path_of(found)
+
+    def is_whole(self, run_id: str) -> bool:
+        """Tell whether a run has all tests: it is no part, and no shard."""
+        path = self.path_of(run_id)
+        known = self.notes(path)
+        if known:
+            return known.part is Part.WHOLE and known.shard is None
+        return bundle.read_parent(path) is None
+
+    def last_in_row(self) -> pathlib.Path:
+        """Return the bundle of the last whole run, or of the last rerun of it or of its reruns."""
+        found = bundle_file.stem_of(self.last().name)
+        row = [found]
+        for run_id in reversed(self.by_start()):
+            with contextlib.suppress(Fault, FileNotFoundError):
+                if bundle.read_parent(self.path_of(run_id)) in row:
+                    row.append(run_id)
+        return self.path_of(row[-1])
 
     def prefixes(self) -> dict[str, str]:
         """Return for each id its shortest beginning of four letters or more that no other has."""
-        ids, found = self.ids(), {}
+        ids, found = self.all_ids(), {}
         for place, run_id in enumerate(ids):
             neighbours = ids[max(0, place - 1) : place] + ids[place + 1 : place + 2]
             shared = [len(os.path.commonprefix([run_id, other])) for other in neighbours]
@@ -197,26 +253,28 @@ class Store:
                 pass
             compressed.unlink(missing_ok=True)
 
-    @contextlib.contextmanager
-    def noting(self, run_id: str, known: RunNotes | None) -> Iterator[None]:
-        """Write what is known of a run that is recorded meanwhile; after a fault it goes.
+    def note(self, run_id: str, known: RunNotes) -> None:
+        """Write what is known of a run, before it has a bundle: whoever finds that finds both.
 
-        So whoever finds a bundle finds its notes too. If they can't be written, that is said, and
-        the run is recorded nevertheless.
+        If the notes can't be written, that is said, and the run goes on.
         """
-        path = notes.path_beside(self.path_of(run_id))
         try:
             self.prepare()
             with self.writable():
-                if known is not None:
-                    notes.write(known, path)
+                notes.write(known, self.folder / f"{run_id}{notes.ENDING}")
         except Fault as fault:
             say(f"rezovamy-runs: the notes of the run aren't kept: {fault}")
+
+    @contextlib.contextmanager
+    def recording(self, run_id: str) -> Iterator[None]:
+        """Remove the notes of a run that is recorded meanwhile if nothing is kept of it."""
         try:
             yield
         except BaseException:
-            if not self.path_of(run_id).exists():
-                path.unlink(missing_ok=True)
+            live = self.folder / f"{run_id}{live_folder.ENDING}"
+            if not self.path_of(run_id).exists() and not live.exists():
+                with contextlib.suppress(OSError):
+                    (self.folder / f"{run_id}{notes.ENDING}").unlink(missing_ok=True)
             raise
 
     def notes(self, path: pathlib.Path) -> RunNotes | None:
@@ -236,27 +294,24 @@ class Store:
             (self.folder / f"{run_id}{ending}").unlink(missing_ok=True)
 
     def abandoned(self) -> Iterator[pathlib.Path]:
-        """Find the files that a recording left that was killed."""
+        """Find the files that a recording left that was killed: bundles, and notes of no run."""
         now = time.time()
-        for path in self.folder.glob(f".*{ASIDE}"):
+        kept = {*self.all_ids(), *self.names(live_folder.ENDING)}
+        lone = [name for name in self.names(notes.ENDING) if name not in kept]
+        paths = [self.folder / f"{run_id}{notes.ENDING}" for run_id in lone]
+        for path in (*self.folder.glob(f".*{ASIDE}"), *paths):
             with contextlib.suppress(FileNotFoundError):
                 if now - path.stat().st_mtime > ABANDONED_AFTER:
                     yield path
 
-    def prune(self, keep: int) -> list[Summary]:
-        """Remove all runs but the latest ones, and return them.
-
-        What recordings left that were killed long ago goes too.
-        """
-        # A file that can't be read is no run of which it is known that it is old.
-        old = self.summaries(lambda line: None)[keep:]
+    def prune(self, old: Iterable[Summary]) -> None:
+        """Remove runs, and what recordings left that were killed long ago."""
         for run in old:
             # By its file: in a copy under another name stands the id of a run that may have to
             # stay.
             self.remove(bundle_file.stem_of(run.bundle.name))
         for path in self.abandoned():
             path.unlink(missing_ok=True)
-        return old
 
 
 def is_bundle(word: str) -> bool:
@@ -287,6 +342,11 @@ class Here(Store):
         """Return the folder, which may be looked for in vain."""
         return location.named_folder() or location.runs_folder(self.workspace)
 
+    @functools.cached_property
+    def going_on(self) -> list[LiveFolder]:
+        """Pack the runs that were stopped, and return the folders of those that go on."""
+        return settle_all(self, lambda line: say(f"rezovamy-runs: {line}"))
+
     def is_somewhere(self) -> bool:
         """Tell whether it is known where the folder is."""
         try:
@@ -295,7 +355,11 @@ class Here(Store):
             return False
 
     def ids(self) -> list[str]:
-        """Return the ids of the runs; at the first time, name those in the target directory."""
+        """Return the ids of the runs, once those that were stopped are packed.
+
+        At the first time, name those in the target directory.
+        """
+        assert self.going_on is not None
         if location.named_folder() is None and self.workspace:
             self._tell_of_older(self.workspace.target / location.OLDER)
         return super().ids()
