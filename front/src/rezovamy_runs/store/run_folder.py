@@ -10,7 +10,7 @@ import pathlib
 import re
 import shlex
 import time
-from collections.abc import Callable, Iterator
+from collections.abc import Callable, Iterable, Iterator
 
 from rezovamy_runs import formatting
 from rezovamy_runs.bundles import bundle, bundle_file
@@ -294,27 +294,24 @@ class Store:
             (self.folder / f"{run_id}{ending}").unlink(missing_ok=True)
 
     def abandoned(self) -> Iterator[pathlib.Path]:
-        """Find the files that a recording left that was killed."""
+        """Find the files that a recording left that was killed: bundles, and notes of no run."""
         now = time.time()
-        for path in self.folder.glob(f".*{ASIDE}"):
+        kept = {*self.all_ids(), *self.names(live_folder.ENDING)}
+        lone = [name for name in self.names(notes.ENDING) if name not in kept]
+        paths = [self.folder / f"{run_id}{notes.ENDING}" for run_id in lone]
+        for path in (*self.folder.glob(f".*{ASIDE}"), *paths):
             with contextlib.suppress(FileNotFoundError):
                 if now - path.stat().st_mtime > ABANDONED_AFTER:
                     yield path
 
-    def prune(self, keep: int) -> list[Summary]:
-        """Remove all runs but the latest ones, and return them.
-
-        What recordings left that were killed long ago goes too.
-        """
-        # A file that can't be read is no run of which it is known that it is old.
-        old = self.summaries(lambda line: None)[keep:]
+    def prune(self, old: Iterable[Summary]) -> None:
+        """Remove runs, and what recordings left that were killed long ago."""
         for run in old:
             # By its file: in a copy under another name stands the id of a run that may have to
             # stay.
             self.remove(bundle_file.stem_of(run.bundle.name))
         for path in self.abandoned():
             path.unlink(missing_ok=True)
-        return old
 
 
 def is_bundle(word: str) -> bool:
