@@ -11,6 +11,7 @@ from typing import IO
 
 from rezovamy_runs.collecting import cargo_call, test_words
 from rezovamy_runs.collecting.collect import Collector, Listed, jobs_of
+from rezovamy_runs.collecting.groups import groups_of
 from rezovamy_runs.collecting.records import own_environment
 from rezovamy_runs.faults.fault import Fault
 from rezovamy_runs.json_values import JsonObject
@@ -38,6 +39,7 @@ class RunOptions:
     slow_after: int | None = None
     test_threads: int | None = None
     fail_fast: bool = False
+    shared: bool = False
     scripts: tuple[tuple[str, str], ...] = ()
 
     def settings(self, words: Sequence[str]) -> Settings:
@@ -121,13 +123,16 @@ class ProcessRun:
         self, loop: Loop, listed: Sequence[Listed]
     ) -> tuple[ProcessSession, SessionFile]:
         """Run the tests, show what happens, and keep it."""
+        groups = groups_of(listed) if self._options.shared else []
         jobs, scripts = jobs_of(listed), self._options.setup_scripts()
+        in_groups = {id(job) for group in groups for job in group.jobs}
+        alone = [job for job in jobs if id(job) not in in_groups]
         skipped = [(one.binary.target.id, name) for one in listed for name in one.ignored]
         session = ProcessSession(self._name, jobs, skipped, len(scripts), loop.now())
         events, progress = SessionFile(), ProcessProgress(len(jobs))
         events.write(session.first_events())
         settings = self._options.settings(self._calls[0])
-        for told in Run(loop, jobs, settings, scripts):
+        for told in Run(loop, alone, settings, scripts, groups):
             progress.show(told)
             events.write(session.events(told))
         return session, events
