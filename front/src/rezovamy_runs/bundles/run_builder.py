@@ -23,6 +23,7 @@ from rezovamy_runs.bundles.events import (
     TestStarted,
     seconds,
 )
+from rezovamy_runs import cut_outputs
 from rezovamy_runs.model import Attempt, Counts, Pause, Script, Stream, Test, TestName, Verdict
 
 # Answers the bytes of an output by its file's name, or None where outputs are left out.
@@ -195,11 +196,12 @@ def ended_attempt(end: AttemptEnd, slot: int | None, load: Load) -> Attempt:
         output.stream: b"" if output.file_name is None else load(output.file_name)
         for output in end.outputs
     }
-    truncated: dict[str, int] = {
+    sizes = {
         output.stream: output.original_size
+        or cut_outputs.original_size(outputs[output.stream] or b"")
         for output in end.outputs
-        if output.original_size is not None
     }
+    truncated: dict[str, int] = {stream: size for stream, size in sizes.items() if size}
     return Attempt(
         end.number,
         end.total,

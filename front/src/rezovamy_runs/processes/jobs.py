@@ -11,6 +11,7 @@ import enum
 from collections.abc import Mapping
 from typing import NamedTuple
 
+from rezovamy_runs.cut_outputs import FIRST
 from rezovamy_runs.streams.messages import SECOND
 
 MILLISECOND = SECOND // 1000
@@ -83,7 +84,7 @@ class Settings:
     timeout: int | None = None
     slow_after: int | None = None
     fail_fast: bool = False
-    output_limit: int = 1 << 20
+    output_limit: int = FIRST
     grace: int = 500 * MILLISECOND
     cancel_grace: int = 2 * SECOND
     leak_wait: int = 100 * MILLISECOND

@@ -4,12 +4,12 @@ from __future__ import annotations
 
 import signal
 
+from rezovamy_runs import cut_outputs
 from rezovamy_runs.json_values import JsonObject
 from rezovamy_runs.processes.jobs import Captured, Ending, Exit, Job, Verdict
 from rezovamy_runs.streams.failure_messages import errors_of
 from rezovamy_runs.streams.session_writer import length, moment
 
-MARKER = "\n\n... [truncated {} bytes] ...\n\n"
 # How much of an output is searched for what went wrong.
 MOST_SEARCHED = 100_000
 
@@ -18,7 +18,7 @@ def shown(captured: Captured) -> bytes:
     """Return what was kept of an output, with a note where the middle is missing."""
     if not captured.left_out:
         return captured.first + captured.last
-    return captured.first + MARKER.format(captured.left_out).encode() + captured.last
+    return captured.first + cut_outputs.note(captured.left_out) + captured.last
 
 
 def abort_of(number: int) -> JsonObject:
