@@ -74,10 +74,11 @@ def test_a_run_with_a_failure(front_end: FrontEnd, way: tuple[str, ...]) -> None
     for part in (
         "2 tests in ",
         "] tiny fails (exit code 101)",
-        "assertion `left == right` failed: one is not two",
         f"in {front_end.folder}/target/rezovamy-runs/",
     ):
         assert part in done.stdout
+    why = "assertion `left == right` failed: one is not two"
+    assert (done.stderr.count(why), done.stdout.count(why)) == (1, 0)
     assert "    fine\n" in front_end.run("show", "passes", folder="src").stdout
     assert front_end.run("test", *way, "--", "--lib", "--", "passes", folder="src").returncode == 0
     before = json.loads(front_end.output("list", "--json"))[1]["id"]

@@ -155,7 +155,7 @@ class Outputs:
 
     def keep(self, session: Session) -> int:
         """Record a session, print what came of it, and return the status of its tests."""
-        return self._keep(session.status, lambda: recorder.record(self.runs, session))
+        return self._keep(session.status, lambda: recorder.record(self.runs, session), False)
 
     def run(self, process_run: ProcessRun, judge: Judge = status_of) -> int:
         """Run tests as processes, record the run, and return what `judge` says of it.
@@ -172,15 +172,18 @@ class Outputs:
             with made.session() as stream:
                 return recorder.record_stream(self.runs, made.run_id, stream)
 
-        self._keep(made.status, record)
+        self._keep(made.status, record, is_one_reader())
         return judge(made)
 
-    def _keep(self, status: int, record: Callable[[], pathlib.Path]) -> int:
-        """Record a run that ended with a status, and print what came of it."""
+    def _keep(self, status: int, record: Callable[[], pathlib.Path], has_told: bool) -> int:
+        """Record a run that ended with a status, and print what came of it.
+
+        If `has_told`, what failing tests printed has been printed for the same reader.
+        """
         recorder.hear_signals()
         try:
             path = record()
-            print_out(summary_of(self.runs, path))
+            print_out(summary_of(self.runs, path, has_told))
             self._write_more(path)
         except (Fault, OSError) as error:
             if status == 0:
@@ -247,13 +250,22 @@ def read_lines(options: Options, source: str) -> Session:
             progress.finish()
 
 
-def summary_of(runs: run_folder.Store, path: pathlib.Path) -> str:
-    """Return what is printed of a run that was recorded."""
+def is_one_reader() -> bool:
+    """Tell whether both outputs are for one reader: both are a terminal, or none is."""
+    return terminal.is_terminal(sys.stdout) == terminal.is_terminal(sys.stderr)
+
+
+def summary_of(runs: run_folder.Store, path: pathlib.Path, has_told: bool) -> str:
+    """Return what is printed of a run that was recorded.
+
+    If `has_told`, failures are only named.
+    """
     run = bundle.read_run(path)
-    printer = Printer(terminal.Paint(terminal.colours(sys.stdout)), MOST_LINES)
+    paint = terminal.Paint(terminal.colours(sys.stdout))
+    printer = Printer(paint, MOST_LINES, with_outputs=not has_told)
     prefix = runs.prefixes().get(run.id, run.id)
     lines = [
-        *printer.tests(run.tests, False),
+        *printer.failures(run.tests),
         *printer.never_started(run),
         *printer.slowest(run),
         printer.end(run),

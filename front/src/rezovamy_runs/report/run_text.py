@@ -52,11 +52,12 @@ class Printer:
     """Makes lines of a run.
 
     Outputs longer than `most_lines` lose their middle, if that is given, and so do very long
-    lines.
+    lines. Without `with_outputs` no output is in the lines.
     """
 
     paint: Paint
     most_lines: int | None = None
+    with_outputs: bool = True
 
     def head(self, run: Run, prefix: str) -> str:
         """Return a line that says which run it is."""
@@ -71,6 +72,12 @@ class Printer:
         for test in sorted(tests, key=ended):
             if with_passed or test.verdict in NOTEWORTHY:
                 yield from self.test(test, with_passed)
+
+    def failures(self, tests: Iterable[Test]) -> Iterator[str]:
+        """Return the tests that didn't simply pass, in the order of their names."""
+        for test in sorted(tests, key=title_of):
+            if test.verdict in NOTEWORTHY:
+                yield from self.test(test, False)
 
     def test(self, test: Test, with_passed: bool) -> Iterator[str]:
         """Return the lines of a test, an attempt after the other.
@@ -118,6 +125,8 @@ class Printer:
 
     def outputs(self, attempt: Attempt) -> Iterator[str]:
         """Return what an attempt printed, and its errors where they don't stand there."""
+        if not self.with_outputs:
+            return
         printed = ""
         for stream, data in attempt.outputs.items():
             if data:
