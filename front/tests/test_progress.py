@@ -2,11 +2,16 @@
 
 from __future__ import annotations
 
+import fcntl
 import io
 import json
+import os
+import struct
+import termios
 
 import pytest
 
+from rezovamy_runs import terminal
 from rezovamy_runs.json_values import JsonObject
 from rezovamy_runs.runner.progress import Progress
 from rezovamy_runs.runner.session_builder import SessionBuilder
@@ -129,3 +134,23 @@ def test_a_stream_that_is_full_takes_nothing() -> None:
     progress.print_line("a")
     progress.print_line("b")
     Progress(None)
+
+
+@pytest.mark.parametrize(("variable", "width"), [("", 30), ("50", 50), ("0", 30), ("x", 30)])
+def test_a_line_is_as_wide_as_its_own_terminal(
+    monkeypatch: pytest.MonkeyPatch, variable: str, width: int
+) -> None:
+    """Standard output may be another one, or none."""
+    monkeypatch.setenv("COLUMNS", variable)
+    ours, theirs = os.openpty()
+    fcntl.ioctl(theirs, termios.TIOCSWINSZ, struct.pack("HHHH", 40, 30, 0, 0))
+    with os.fdopen(ours, "rb"), os.fdopen(theirs, "w") as stream:
+        assert terminal.width_of(stream) == width
+
+
+def test_a_stream_that_is_no_terminal_has_the_usual_width(
+    monkeypatch: pytest.MonkeyPatch,
+) -> None:
+    monkeypatch.delenv("COLUMNS", raising=False)
+    with open(os.devnull, "w", encoding="utf-8") as stream:
+        assert terminal.width_of(stream) == 80

@@ -2,11 +2,12 @@
 
 from __future__ import annotations
 
+import dataclasses
 import pathlib
 
 import pytest
 
-from rezovamy_runs.model import Attempt, Counts, Result, Run, Script, Status, Test
+from rezovamy_runs.model import Attempt, Counts, Result, Run, Script, Status, Test, TestName
 from rezovamy_runs.report.run_text import Printer
 from rezovamy_runs.terminal import Paint
 
@@ -99,6 +100,29 @@ def test_only_what_failed_comes() -> None:
         *bad,
         *good,
     ]
+
+
+def test_failures_in_the_order_of_their_names() -> None:
+    """What they printed is left out if it has been told."""
+    tests = [
+        finished("c", attempt("fail", "exit code 1", started=1.0, stdout=b"no\n")),
+        finished("b", attempt("pass", started=2.0)),
+        finished("a", attempt("abort", "signal 6", started=3.0)),
+    ]
+    first, second = "ABORT [0.000s] alpha a (signal 6)", "FAIL [0.000s] alpha c (exit code 1)"
+    assert list(PLAIN.failures(tests)) == [first, second, "  standard output", "    no"]
+    named = Printer(Paint(False), with_outputs=False)
+    assert list(named.failures(tests)) == [first, second]
+
+
+def test_tests_that_never_started() -> None:
+    """They are named, only the first of them where less is wanted."""
+    names = tuple(TestName("alpha", f"t{number:02}") for number in range(25))
+    run = dataclasses.replace(run_of(), never_started=names)
+    found = [f"NEVER STARTED alpha t{number:02}" for number in range(25)]
+    assert list(PLAIN.never_started(run)) == found
+    more = ".. 5 more never started, `rezovamy-runs show` has them .."
+    assert list(CUTTING.never_started(run)) == [*found[:20], more]
 
 
 def test_attempts_come_in_their_order() -> None:

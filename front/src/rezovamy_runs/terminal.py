@@ -16,6 +16,7 @@ CODES: dict[Colour, str] = {
     "bold": "1",
     "dim": "2",
 }
+USUAL_WIDTH = 80
 
 
 def columns(text: str) -> int:
@@ -38,6 +39,17 @@ def cut(line: str, width: int) -> str:
         kept += 1
         room -= columns(line[kept])
     return f"{line[:kept]} .."[: max(0, width - 1)]
+
+
+def width_of(stream: TextIO) -> int:
+    """Return how many columns a terminal has; `COLUMNS` stands above what it says."""
+    set_width = os.environ.get("COLUMNS", "")
+    if set_width.isdecimal() and int(set_width):
+        return int(set_width)
+    try:
+        return os.get_terminal_size(stream.fileno()).columns or USUAL_WIDTH
+    except (OSError, ValueError):
+        return USUAL_WIDTH
 
 
 def is_terminal(stream: TextIO | None) -> bool:

@@ -23,6 +23,7 @@ from rezovamy_runs.bundles.events import (
     TestStarted,
     seconds,
 )
+from rezovamy_runs import cut_outputs
 from rezovamy_runs.model import Attempt, Counts, Pause, Script, Stream, Test, TestName, Verdict
 
 # Answers the bytes of an output by its file's name, or None where outputs are left out.
@@ -102,6 +103,7 @@ class RunBuilder:
         self._open_tests: dict[TestName, TestHistory] = {}
         self._open_scripts: dict[int, ScriptHistory] = {}
         self._unseen = 0
+        self._unseen_names: tuple[TestName, ...] = ()
 
     def take(self, event: Event) -> None:
         """Take the next event."""
@@ -142,7 +144,7 @@ class RunBuilder:
                 self.start = event
             case RunFinished():
                 self.elapsed = seconds(event.taken) or self.elapsed
-                self._unseen = event.unseen
+                self._unseen, self._unseen_names = event.unseen, event.unseen_names
             case RunCancelled():
                 self.cancelled_for = event.reason
             case RunPaused() if not is_paused:
@@ -165,6 +167,11 @@ class RunBuilder:
     def tests(self, load: Load) -> tuple[Test, ...]:
         """Return the tests, in the order in which they started or were skipped."""
         return tuple(test.test(load) for test in self._tests)
+
+    def never_started(self) -> tuple[TestName, ...]:
+        """Return the tests that the end of the run names and that never started."""
+        started = {test.name for test in self._tests}
+        return tuple(name for name in self._unseen_names if name not in started)
 
     def scripts(self, load: Load) -> tuple[Script, ...]:
         """Return the setup scripts, in the order in which they started."""
@@ -189,11 +196,12 @@ def ended_attempt(end: AttemptEnd, slot: int | None, load: Load) -> Attempt:
         output.stream: b"" if output.file_name is None else load(output.file_name)
         for output in end.outputs
     }
-    truncated: dict[str, int] = {
+    sizes = {
         output.stream: output.original_size
+        or cut_outputs.original_size(outputs[output.stream] or b"")
         for output in end.outputs
-        if output.original_size is not None
     }
+    truncated: dict[str, int] = {stream: size for stream, size in sizes.items() if size}
     return Attempt(
         end.number,
         end.total,

@@ -26,12 +26,10 @@ from rezovamy_runs.faults.fault import Fault
 from rezovamy_runs.page import document
 from rezovamy_runs.processes import guard
 from rezovamy_runs.report.run_text import Printer
-from rezovamy_runs.runner import cargo_words, run_facts
-from rezovamy_runs.runner.cargo_runs import PAUSE, CargoRuns
+from rezovamy_runs.runner import run_facts
 from rezovamy_runs.runner.line_stream import LineStream
 from rezovamy_runs.runner.process_run import ProcessRun, Recordable
 from rezovamy_runs.runner.progress import Progress
-from rezovamy_runs.runner.rerun_plan import Plan
 from rezovamy_runs.runner.session_builder import Session, SessionBuilder
 from rezovamy_runs.store import run_folder, whole_session
 from rezovamy_runs.store.notes import RunNotes
@@ -44,6 +42,8 @@ from rezovamy_runs.streams.texts import without_surrogates
 SUMMARY = "run `cargo test` with the words after --, and record the run"
 TAKES_REST = True
 MOST_LINES = 200
+# How often it is shown how far the lines are, while none comes.
+PAUSE = 0.2
 
 
 @dataclasses.dataclass(frozen=True)
@@ -125,12 +125,8 @@ def run(words: argparse.Namespace) -> int:
     if options.shared:
         run_options.refuse_with_shared(words)
         note_options.refuse_shard(words)
-        outputs = outputs_of(words, runs, False)
-        outputs.prepare()
-        commands = [cargo_words.cargo_words(options.rest)]
-        return outputs.keep(run_cargo(commands, options.profile, cli_args))
     cargo_call.read(options.rest)
-    outputs = outputs_of(words, runs, True)
+    outputs = outputs_of(words, runs, not options.shared)
     of_run = dataclasses.replace(run_options.options_of_run(words), shard=outputs.notes.shard)
     process_run = ProcessRun([options.rest], of_run, options.profile, cli_args)
     return guarded_status(lambda: outputs.run(process_run))
@@ -181,7 +177,9 @@ class Outputs:
         """Record a session, print what came of it, and return the status of its tests."""
         with self.runs.recording(session.run_id):
             self.runs.note(session.run_id, self._notes_of(session.suites))
-            return self._keep(session.status, lambda: whole_session.record(self.runs, session))
+            return self._keep(
+                session.status, lambda: whole_session.record(self.runs, session), has_told=False
+            )
 
     def run(self, process_run: ProcessRun, judge: Judge = status_of) -> int:
         """Run tests as processes, record the run, and return what `judge` says of it.
@@ -192,7 +190,7 @@ class Outputs:
         try:
             with self.runs.recording(process_run.run_id):
                 made = process_run.run(self.runs, self._notes_of)
-                self._keep(made.status, made.record)
+                self._keep(made.status, made.record, is_one_reader())
         except BuildFailed as failed:
             return failed.status
         return judge(made)
@@ -203,12 +201,15 @@ class Outputs:
         part = run_facts.part_of(self.notes, tests, self.is_chosen)
         return dataclasses.replace(self.notes, part=part, build_seconds=build_seconds)
 
-    def _keep(self, status: int, record: Callable[[], pathlib.Path]) -> int:
-        """Record a run that ended with a status, and print what came of it."""
+    def _keep(self, status: int, record: Callable[[], pathlib.Path], has_told: bool) -> int:
+        """Record a run that ended with a status, and print what came of it.
+
+        If `has_told`, what failing tests printed has been printed for the same reader.
+        """
         recorder.hear_signals()
         try:
             path = record()
-            print_out(summary_of(self.runs, path))
+            print_out(summary_of(self.runs, path, has_told))
             self._write_more(path)
         except (Fault, OSError) as error:
             if status == 0:
@@ -239,23 +240,6 @@ class Following:
         for line in lines:
             self.builder.read(line)
             self.progress.refresh()
-
-
-def run_cargo(
-    commands: list[list[str]],
-    profile: str,
-    cli_args: list[str],
-    plan: Plan | None = None,
-) -> Session:
-    """Return the session of runs of cargo, one after the other; of a rerun with its plan."""
-    following = Following(arrival_clock())
-    progress, builder = following.progress, following.builder
-    lines = CargoRuns(commands, progress.refresh, builder.reader.end_cargo_run)
-    following.read(lines)
-    try:
-        return builder.session(lines.status(), lines.cancel_reason, profile, cli_args, plan)
-    finally:
-        progress.finish()
 
 
 def opened(source: str) -> BinaryIO:
@@ -292,13 +276,23 @@ def read_lines(options: Options, source: str) -> Session:
             progress.finish()
 
 
-def summary_of(runs: run_folder.Store, path: pathlib.Path) -> str:
-    """Return what is printed of a run that was recorded."""
+def is_one_reader() -> bool:
+    """Tell whether both outputs are for one reader: both are a terminal, or none is."""
+    return terminal.is_terminal(sys.stdout) == terminal.is_terminal(sys.stderr)
+
+
+def summary_of(runs: run_folder.Store, path: pathlib.Path, has_told: bool) -> str:
+    """Return what is printed of a run that was recorded.
+
+    If `has_told`, failures are only named.
+    """
     run = bundle.read_run(path)
-    printer = Printer(terminal.Paint(terminal.colours(sys.stdout)), MOST_LINES)
+    paint = terminal.Paint(terminal.colours(sys.stdout))
+    printer = Printer(paint, MOST_LINES, with_outputs=not has_told)
     prefix = runs.prefixes().get(run.id, run.id)
     lines = [
-        *printer.tests(run.tests, False),
+        *printer.failures(run.tests),
+        *printer.never_started(run),
         *printer.slowest(run),
         printer.end(run),
         f"recorded as {prefix} in {path}",

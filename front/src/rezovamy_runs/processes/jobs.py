@@ -11,6 +11,7 @@ import enum
 from collections.abc import Mapping
 from typing import NamedTuple
 
+from rezovamy_runs.cut_outputs import FIRST
 from rezovamy_runs.streams.messages import SECOND
 
 MILLISECOND = SECOND // 1000
@@ -42,6 +43,25 @@ class Job:
 
 
 @dataclasses.dataclass(frozen=True)
+class Group:
+    """Tests that run in one process, as many of them at once as its words say.
+
+    The program, with the words `arguments` besides, prints the events of libtest as JSON. `jobs`
+    run those tests by themselves which a crash of the process leaves without a result; `others` are
+    tests that are told and don't run. `itself` is the job that stands for the process. With
+    `log_file`, the runner adds `--logfile FILE` before the arguments, and believes no result that
+    the file doesn't have.
+    """
+
+    program: Program
+    arguments: tuple[str, ...]
+    jobs: tuple[Job, ...]
+    itself: Job
+    others: frozenset[str] = frozenset()
+    log_file: bool = False
+
+
+@dataclasses.dataclass(frozen=True)
 class Script:
     """A setup script, which ends before the first test starts."""
 
@@ -64,7 +84,7 @@ class Settings:
     timeout: int | None = None
     slow_after: int | None = None
     fail_fast: bool = False
-    output_limit: int = 1 << 20
+    output_limit: int = FIRST
     grace: int = 500 * MILLISECOND
     cancel_grace: int = 2 * SECOND
     leak_wait: int = 100 * MILLISECOND
@@ -165,8 +185,9 @@ class Slow:
 class Ending:
     """How a process ended, with what it printed.
 
-    If the process couldn't be started, `exit` is None, and `error` says why. `leaked` means that
-    another process held an output open for longer than the settings allow.
+    If the process couldn't be started, `exit` is None, and `error` says why. Else `error` is what
+    is said besides. `leaked` means that another process held an output open for longer than the
+    settings allow. `is_combined` means that `stdout` has both outputs.
     """
 
     verdict: Verdict
@@ -178,6 +199,7 @@ class Ending:
     leaked: bool = False
     is_slow: bool = False
     error: str = ""
+    is_combined: bool = False
 
 
 @dataclasses.dataclass(frozen=True)
@@ -220,6 +242,16 @@ class ScriptEnded:
     index: int
     total: int
     ending: Ending
+    at: int
+
+
+@dataclasses.dataclass(frozen=True)
+class Printed:
+    """A process of several tests has ended, and printed this outside of its tests."""
+
+    job: Job
+    stdout: Captured
+    stderr: Captured
     at: int
 
 
@@ -267,6 +299,7 @@ Event = (
     | ScriptStarted
     | ScriptSlow
     | ScriptEnded
+    | Printed
     | Paused
     | Continued
     | Cancelled

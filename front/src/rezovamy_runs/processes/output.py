@@ -2,10 +2,8 @@
 
 from __future__ import annotations
 
+from rezovamy_runs.cut_outputs import LAST
 from rezovamy_runs.processes.jobs import Captured
-
-# How many of the last bytes are kept if an output is longer than its limit.
-LAST = 4096
 
 
 class Capture:

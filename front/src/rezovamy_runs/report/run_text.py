@@ -41,6 +41,8 @@ STREAMS = {
 }
 NOTEWORTHY = (Verdict.FAIL, Verdict.FLAKY, Verdict.UNFINISHED)
 SLOWEST = 5
+# How many tests are named at the end of a run of those that never started.
+MOST_NAMES = 20
 INDENT = "    "
 LONGEST_LINE = 2000
 
@@ -50,11 +52,12 @@ class Printer:
     """Makes lines of a run.
 
     Outputs longer than `most_lines` lose their middle, if that is given, and so do very long
-    lines.
+    lines. Without `with_outputs` no output is in the lines.
     """
 
     paint: Paint
     most_lines: int | None = None
+    with_outputs: bool = True
 
     def head(self, run: Run, prefix: str) -> str:
         """Return a line that says which run it is."""
@@ -69,6 +72,12 @@ class Printer:
         for test in sorted(tests, key=ended):
             if with_passed or test.verdict in NOTEWORTHY:
                 yield from self.test(test, with_passed)
+
+    def failures(self, tests: Iterable[Test]) -> Iterator[str]:
+        """Return the tests that didn't simply pass, in the order of their names."""
+        for test in sorted(tests, key=title_of):
+            if test.verdict in NOTEWORTHY:
+                yield from self.test(test, False)
 
     def test(self, test: Test, with_passed: bool) -> Iterator[str]:
         """Return the lines of a test, an attempt after the other.
@@ -90,6 +99,15 @@ class Printer:
         if test.flaky_fails and test.verdict is Verdict.FAIL and test.attempts[-1].passed:
             yield f"{INDENT}it passed at last, and flaky tests fail in this run"
 
+    def never_started(self, run: Run) -> Iterator[str]:
+        """Return the tests of a run that never started, as far as it names them."""
+        names = run.never_started
+        shown = names[:MOST_NAMES] if self.most_lines else names
+        for key in shown:
+            yield f"{self.paint('yellow', 'NEVER STARTED')} {name_of(key)}"
+        if len(shown) < len(names):
+            yield f".. {len(names) - len(shown)} more never started, {SHOWN_BY} .."
+
     def scripts(self, scripts: Iterable[Script], with_passed: bool) -> Iterator[str]:
         """Return the setup scripts that failed, or all."""
         for script in scripts:
@@ -107,6 +125,8 @@ class Printer:
 
     def outputs(self, attempt: Attempt) -> Iterator[str]:
         """Return what an attempt printed, and its errors where they don't stand there."""
+        if not self.with_outputs:
+            return
         printed = ""
         for stream, data in attempt.outputs.items():
             if data:

@@ -4,12 +4,12 @@ from __future__ import annotations
 
 import signal
 
+from rezovamy_runs import cut_outputs
 from rezovamy_runs.json_values import JsonObject
 from rezovamy_runs.processes.jobs import Captured, Ending, Exit, Job, Verdict
 from rezovamy_runs.streams.failure_messages import errors_of
 from rezovamy_runs.streams.session_writer import length, moment
 
-MARKER = "\n\n... [truncated {} bytes] ...\n\n"
 # How much of an output is searched for what went wrong.
 MOST_SEARCHED = 100_000
 
@@ -18,7 +18,7 @@ def shown(captured: Captured) -> bytes:
     """Return what was kept of an output, with a note where the middle is missing."""
     if not captured.left_out:
         return captured.first + captured.last
-    return captured.first + MARKER.format(captured.left_out).encode() + captured.last
+    return captured.first + cut_outputs.note(captured.left_out) + captured.last
 
 
 def abort_of(number: int) -> JsonObject:
@@ -48,15 +48,15 @@ def result_of(ending: Ending) -> str | JsonObject:
 def errors_in(ending: Ending) -> list[str]:
     """Return what is said of an attempt that didn't pass."""
     if ending.verdict is Verdict.PASSED:
-        return []
-    found = errors_of(text_of(ending.stderr) + text_of(ending.stdout), None)
+        return [ending.error] if ending.error else []
+    found = errors_of(text_of(ending.stderr) + text_of(ending.stdout), ending.error or None)
     return [*said_of(ending), *found]
 
 
 def said_of(ending: Ending) -> list[str]:
     """Return what an ending means that the exit status alone doesn't say."""
     ended = ending.exit or Exit()
-    if ending.verdict is Verdict.NO_RESULT:
+    if ending.verdict is Verdict.NO_RESULT and not ending.error:
         return [f"the process exited with status {ended.status} before the test ended"]
     if ending.verdict is Verdict.CANCELLED:
         return ["the run was cancelled while this test ran"]
@@ -72,8 +72,11 @@ def output_of(ending: Ending) -> JsonObject:
     """Return what a process printed, or why it couldn't be started."""
     if ending.exit is None:
         return {"start-error": ending.error}
-    split = {"stdout": shown(ending.stdout).hex(), "stderr": shown(ending.stderr).hex()}
-    output: JsonObject = {"output": {"split": split}}
+    outputs: JsonObject = {"combined": shown(ending.stdout).hex()}
+    if not ending.is_combined:
+        split = {"stdout": shown(ending.stdout).hex(), "stderr": shown(ending.stderr).hex()}
+        outputs = {"split": split}
+    output: JsonObject = {"output": outputs}
     errors = errors_in(ending)
     if errors:
         output["errors"] = errors

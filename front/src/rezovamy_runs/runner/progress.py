@@ -2,7 +2,6 @@
 
 from __future__ import annotations
 
-import shutil
 import sys
 import time
 from collections.abc import Callable, Iterable
@@ -60,8 +59,8 @@ class ProgressLine:
 
     def draw(self, line: str) -> None:
         """Show the line, on a terminal in place of the one before."""
-        if self.is_terminal:
-            self._write(terminal.cut(line, shutil.get_terminal_size().columns))
+        if self.is_terminal and self.stream is not None:
+            self._write(terminal.cut(line, terminal.width_of(self.stream)))
             self._is_drawn = True
         else:
             self._write(line + "\n")
