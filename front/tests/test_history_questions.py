@@ -183,6 +183,23 @@ def test_the_least_trusted_come_first() -> None:
     ]
 
 
+def test_what_several_runs_say_that_count_as_one_counts_once() -> None:
+    shards = JoinedRun((row(1), row(2)))
+    runs = [shards, *alone(row(3), row(4))]
+    ended = [
+        (7, key_of_run(id_of(number)), verdict)
+        for number, verdict in ((1, "pass"), (2, "pass"), (3, "fail"), (4, "flaky"), (5, "fail"))
+    ]
+    # The sources of no run are known.
+    assert flakiness.tallies(runs, ended, {7: ALPHA}) == [
+        Tally(ALPHA, -1, 1, 0, 0),
+        Tally(ALPHA, -3, 0, 1, 0),
+        Tally(ALPHA, -2, 0, 0, 1),
+    ]
+    again = [(7, key_of_run(id_of(1)), "fail"), (7, key_of_run(id_of(2)), "pass")]
+    assert flakiness.tallies([shards], again, {7: ALPHA}) == [Tally(ALPHA, -1, 0, 1, 0)]
+
+
 # The runs of a test.
 
 

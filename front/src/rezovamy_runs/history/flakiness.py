@@ -2,9 +2,10 @@
 
 from __future__ import annotations
 
+import array
 import dataclasses
 import enum
-from collections.abc import Collection, Iterable, Mapping, Sequence
+from collections.abc import Collection, Iterable, Iterator, Mapping, Sequence
 
 from rezovamy_runs.history.joining import JoinedRun
 from rezovamy_runs.model import TestName
@@ -109,21 +110,38 @@ def tallies(
     runs: Sequence[JoinedRun], ended: Iterable[Ended], names: Mapping[int, TestName]
 ) -> list[Tally]:
     """Count how often tests passed and failed, by what sources ran; other runs don't count."""
-    code = codes(runs)
+    code, count = codes(runs), len(runs)
     places = {row.run: place for place, run in enumerate(runs) for row in run.rows}
-    passed, failed = set[tuple[int, int]](), set[tuple[int, int]]()
+    # Each end is one number, of the test's place and the run's: there may be millions of them.
+    tests: dict[int, int] = {}
+    passed, failed = array.array("q"), set[int]()
     for test, run, verdict in ended:
         place = places.get(run)
         if place is not None:
+            end = tests.setdefault(test, len(tests)) * count + place
             if verdict != "fail":
-                passed.add((test, place))
+                passed.append(end)
             if verdict != "pass":
-                failed.add((test, place))
+                failed.add(end)
+    both = failed.intersection(passed)
     counts: dict[tuple[int, int], list[int]] = {}
-    for column, ends in enumerate((passed - failed, passed & failed, failed - passed)):
-        for test, place in ends:
-            counts.setdefault((test, code[place]), [0, 0, 0])[column] += 1
-    return [Tally(names[test], number, *of_test) for (test, number), of_test in counts.items()]
+    for column, ends in enumerate((once(passed, runs, both), both, failed - both)):
+        for end in ends:
+            of_test = counts.setdefault((end // count, code[end % count]), [0, 0, 0])
+            of_test[column] += 1
+    keys = list(tests)
+    return [Tally(names[keys[test]], number, *each) for (test, number), each in counts.items()]
+
+
+def once(passed: Iterable[int], runs: Sequence[JoinedRun], both: Collection[int]) -> Iterator[int]:
+    """Return the ends at which a test only passed, each once though several runs count as one."""
+    shared, seen = {place for place, run in enumerate(runs) if len(run.rows) > 1}, set[int]()
+    for end in passed:
+        if end in both or end in seen:
+            continue
+        if end % len(runs) in shared:
+            seen.add(end)
+        yield end
 
 
 def doubtful(tallies: Iterable[Tally]) -> Collection[TestName]:
