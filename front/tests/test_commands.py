@@ -49,11 +49,11 @@ def test_list(two_runs: FrontEnd) -> None:
         return f"{two_runs.path_of(run_id).stat().st_size / 1024:.1f} KiB"
 
     assert two_runs.output("list").splitlines() == [
-        "run                                   started              profile  passed  failed"
+        "run                                   started              profile  part  passed  failed"
         "  flaky  skipped  unended  status         took     size",
-        "0a1b2c3d-0000-4000-8000-000000000002  1970-01-01 00:33:20  default       2       1"
+        "0a1b2c3d-0000-4000-8000-000000000002  1970-01-01 00:33:20  default             2       1"
         f"      0        0        0  completed 101  1.0s  {size(OTHER)}",
-        "0a1b2c3d-0000-4000-8000-000000000001  1970-01-01 00:16:40  default       1       1"
+        "0a1b2c3d-0000-4000-8000-000000000001  1970-01-01 00:16:40  default             1       1"
         f"      0        0        0  completed 101  1.0s  {size(made.ID)}",
     ]
 
@@ -77,6 +77,8 @@ def test_list_for_scripts(two_runs: FrontEnd) -> None:
         "seconds": 1.0,
         "bytes": path.stat().st_size,
         "path": str(path),
+        "part": "whole",
+        "notes": None,
     }
     assert second["id"] == made.ID
 

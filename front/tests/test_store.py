@@ -3,6 +3,7 @@
 from __future__ import annotations
 
 import errno
+import hashlib
 import os
 import pathlib
 import time
@@ -218,6 +219,7 @@ def folder(tmp_path: pathlib.Path, monkeypatch: pytest.MonkeyPatch) -> pathlib.P
     monkeypatch.chdir(folder)
     monkeypatch.setattr(location, "of_cargo", lambda manifest=None: None)
     monkeypatch.delenv("REZOVAMY_RUNS", raising=False)
+    monkeypatch.setenv("XDG_STATE_HOME", str(folder / "state"))
     return folder
 
 
@@ -259,26 +261,60 @@ def test_without_cargo_it_is_that_of_the_workspace_above(
     (folder / "Cargo.toml").write_text('[workspace]\nmembers = ["member"]\n')
     (folder / "member/Cargo.toml").write_text("[package]\n")
     monkeypatch.chdir(folder / "member/src")
-    assert run_folder.here().folder == folder / "target/rezovamy-runs"
+    assert run_folder.here().workspace_root() == folder
+    assert run_folder.here().junit_folder() == folder / "target/rezovamy-junit"
     (folder / "Cargo.toml").write_text("[package]\n")
-    assert run_folder.here().folder == folder / "member/target/rezovamy-runs"
-    named = run_folder.here(str(folder / "Cargo.toml")).folder
-    assert named == folder / "target/rezovamy-runs"
+    assert run_folder.here().workspace_root() == folder / "member"
+    assert run_folder.here(str(folder / "Cargo.toml")).workspace_root() == folder
+
+
+def test_the_runs_of_a_workspace_have_a_folder_by_its_name_and_path(
+    folder: pathlib.Path, monkeypatch: pytest.MonkeyPatch
+) -> None:
+    root = folder / "my shop"
+    root.mkdir()
+    (root / "Cargo.toml").write_text("[package]\n")
+    (folder / "link").symlink_to(root)
+    digest = hashlib.sha256(os.fsencode(root)).hexdigest()[:10]
+    for place in (root, folder / "link"):
+        monkeypatch.chdir(place)
+        assert run_folder.here().folder == folder / f"state/rezovamy/my_shop-{digest}"
+    for unset in ("", "relative"):
+        monkeypatch.setenv("XDG_STATE_HOME", unset)
+        monkeypatch.setenv("HOME", "/home/me")
+        made_of_home = pathlib.Path(f"/home/me/.local/state/rezovamy/my_shop-{digest}")
+        assert run_folder.here().folder == made_of_home
+
+
+def test_runs_in_the_target_directory_are_named_once(
+    folder: pathlib.Path, capsys: pytest.CaptureFixture[str]
+) -> None:
+    (folder / "Cargo.toml").write_text("[package]\n")
+    assert run_folder.here().ids() == []
+    assert capsys.readouterr().err == ""
+    add(Store(folder / "target/rezovamy-runs"), FIRST)
+    assert run_folder.here().ids() == []
+    assert capsys.readouterr().err == (
+        "rezovamy-runs: 1 run of an earlier version is in the target directory: "
+        f"`rezovamy-runs import {folder}/target/rezovamy-runs` takes it over\n"
+    )
+    assert run_folder.here().ids() == []
+    assert capsys.readouterr().err == ""
 
 
 def test_a_target_directory_that_is_made_is_marked_as_cargo_does(
     folder: pathlib.Path, monkeypatch: pytest.MonkeyPatch
 ) -> None:
     (folder / "Cargo.toml").write_text("[package]\n")
-    run_folder.here().prepare()
+    run_folder.here().prepare_junit()
     tag = folder / "target/CACHEDIR.TAG"
     assert tag.read_text().startswith("Signature: 8a477f597d28d172789f06886806bc55\n")
     tag.unlink()
-    run_folder.here().prepare()
+    run_folder.here().prepare_junit()
     assert not tag.exists()
     monkeypatch.setenv("REZOVAMY_RUNS", "new/runs")
-    run_folder.here().prepare()
-    assert os.listdir("new") == ["runs"]
+    run_folder.here().prepare_junit()
+    assert not pathlib.Path("new").exists()
 
 
 @pytest.mark.usefixtures("folder")

@@ -15,7 +15,7 @@ from rezovamy_runs.commands import misplaced_words
 from rezovamy_runs.faults.fault import Fault
 
 if TYPE_CHECKING:
-    from rezovamy_runs.commands import again, compare, explain, flaky, junit
+    from rezovamy_runs.commands import again, compare, explain, flaky, import_runs, junit
     from rezovamy_runs.commands import list as list_command
     from rezovamy_runs.commands import page, prune, show, test, trace
 
@@ -31,9 +31,12 @@ COMMANDS = (
     "junit",
     "compare",
     "flaky",
+    "import",
     "prune",
     "explain",
 )
+# The modules of commands whose names are words of Python.
+MODULES = {"import": "import_runs"}
 # A run is many values that go all at once, and to look for circles among them takes longer than
 # to read them.
 VALUES_BEFORE_A_LOOK = 1_000_000
@@ -64,7 +67,7 @@ class Parser(argparse.ArgumentParser):
 
 def module_of(command: str) -> Command:
     """Return a command by its name; no other one is imported."""
-    return importlib.import_module(f"rezovamy_runs.commands.{command}")
+    return importlib.import_module(f"rezovamy_runs.commands.{MODULES.get(command, command)}")
 
 
 def parser(names: Sequence[str] = COMMANDS) -> Parser:
@@ -141,6 +144,7 @@ if TYPE_CHECKING:
         junit,
         compare,
         flaky,
+        import_runs,
         prune,
         explain,
     )

@@ -45,7 +45,8 @@ def add_run(parser: argparse.ArgumentParser, default: str | None = "last") -> No
         nargs="?",
         default=default,
         metavar="RUN",
-        help="the beginning of a run's id, the path of a bundle, or last (last)",
+        help="the beginning of a run's id, the path of a bundle, last for the last whole run, or "
+        "last-any (last)",
     )
 
 

@@ -194,6 +194,11 @@ def read_start(path: PathLike) -> float:
     return read(path, lambda bundle: bundle.manifest.started)
 
 
+def read_parent(path: PathLike) -> str | None:
+    """Return the id of the run of which the bundle at a path is a rerun, None if it is none."""
+    return read(path, lambda bundle: bundle.manifest.parent)
+
+
 def read_end(path: PathLike) -> RunFinished | None:
     """Return the end of the run of the bundle at a path, None where its log has none."""
     last = read(path, lambda bundle: bundle.first_and_last()[1])

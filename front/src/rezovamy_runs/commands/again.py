@@ -56,7 +56,7 @@ def run(words: argparse.Namespace) -> int:
     options = options_of(Options, words)
     manifest = manifest_of(options.rest)
     runs = run_folder.here(manifest)
-    path = runs.find(options.run)
+    path = runs.last_in_row() if options.run == run_folder.LAST else runs.find(options.run)
     plan, before = plan_of(path), bundle.read_summary(path)
     first = root_bundle(plan, before)
     say_each([*rerun_plan.remarks(plan), *missing_tests.forget_targets(plan, manifest)])

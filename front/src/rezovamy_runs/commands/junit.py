@@ -21,7 +21,6 @@ from rezovamy_runs.store import run_folder
 
 SUMMARY = "write JUnit XML of a run, for a CI"
 TAKES_REST = False
-FOLDER = "rezovamy-junit"
 
 
 @dataclasses.dataclass(frozen=True)
@@ -40,7 +39,7 @@ def add_options(parser: argparse.ArgumentParser) -> None:
         "--to",
         type=pathlib.Path,
         metavar="FOLDER",
-        help=f"where junit.xml goes ({FOLDER} beside the folder of the runs)",
+        help=f"where junit.xml goes ({run_folder.JUNIT} in the target directory)",
     )
     parser.add_argument("--fail", action="store_true", help="end with status 4 where a test failed")
 
@@ -50,7 +49,19 @@ def run(words: argparse.Namespace) -> int:
     options = options_of(Options, words)
     runs = run_folder.here()
     path = runs.find(options.run)
-    return write(path, options.to or beside(runs), options.fail)
+    return (
+        write(path, options.to, options.fail)
+        if options.to
+        else write_beside(path, runs, options.fail)
+    )
+
+
+def write_beside(path: pathlib.Path, runs: run_folder.Store, fails: bool = False) -> int:
+    """Write the files to where they go if no folder is named, and return the status."""
+    folder = beside(runs)
+    with contextlib.suppress(OSError):
+        runs.prepare_junit()
+    return write(path, folder, fails)
 
 
 def write(path: pathlib.Path, folder: pathlib.Path, fails: bool = False) -> int:
@@ -104,9 +115,7 @@ def beside(runs: run_folder.Store) -> pathlib.Path:
     """Return the folder for the XML where none is named."""
     if not runs.is_somewhere():
         raise Fault(
-            "no Cargo.toml is here or above, whose folder of runs could have the XML beside it: "
+            "no Cargo.toml is here or above, whose target directory could have the XML: "
             "name a folder with --to"
         )
-    # In `.` and `..` no word names the folder, so that nothing stands before it.
-    folder = runs.folder.resolve() if runs.folder.name in ("", "..") else runs.folder
-    return folder.parent / FOLDER
+    return runs.junit_folder()

@@ -6,12 +6,13 @@ import argparse
 import dataclasses
 from collections.abc import Mapping
 
-from rezovamy_runs import formatting
-from rezovamy_runs.command_line import options_of, print_lines, print_out, say
+from rezovamy_runs import formatting, instants
+from rezovamy_runs.command_line import matching, options_of, print_lines, print_out, say
 from rezovamy_runs.model import Status, Summary
 from rezovamy_runs.report import tables
-from rezovamy_runs.store import run_folder
+from rezovamy_runs.store import notes, run_folder
 from rezovamy_runs.store.live_folder import with_running
+from rezovamy_runs.store.notes import Part, RunNotes
 
 SUMMARY = "list the recorded runs, the latest first"
 TAKES_REST = False
@@ -22,11 +23,51 @@ NUMBERS = ("passed", "failed", "flaky", "skipped", "unended", "took", "size")
 class Options:
     """The options of `list`."""
 
+    branch: str | None
+    commit: str | None
+    since: float | None
     json: bool
 
 
+@dataclasses.dataclass(frozen=True)
+class Listed:
+    """A run, and what it is known by; None without notes."""
+
+    run: Summary
+    notes: RunNotes | None
+
+    @property
+    def part(self) -> Part:
+        """Return how much of the tests the run has."""
+        if self.notes:
+            return self.notes.part
+        return Part.AGAIN if self.run.parent else Part.WHOLE
+
+    def is_asked_for(self, options: Options) -> bool:
+        """Tell whether the run has the branch and the commit that are asked for, and is so new."""
+        known = self.notes or RunNotes()
+        return (
+            (options.branch is None or known.branch == options.branch)
+            and (options.commit is None or (known.commit or "").startswith(options.commit.lower()))
+            and (options.since is None or self.run.started >= options.since)
+        )
+
+
 def add_options(parser: argparse.ArgumentParser) -> None:
-    """Take the form of what is printed."""
+    """Take which runs are listed, and the form of what is printed."""
+    parser.add_argument("--branch", metavar="NAME", help="list only runs of this branch")
+    parser.add_argument(
+        "--commit",
+        type=matching(r"[0-9a-fA-F]+", str),
+        metavar="COMMIT",
+        help="list only runs of this commit, or of those that begin so",
+    )
+    parser.add_argument(
+        "--since",
+        type=instants.since,
+        metavar="TIME",
+        help="list only runs since a day, as 2026-12-31, or since some time ago, as 12h or 30d",
+    )
     parser.add_argument("--json", action="store_true", help="print JSON for scripts")
 
 
@@ -35,24 +76,40 @@ def run(words: argparse.Namespace) -> int:
     options = options_of(Options, words)
     runs = run_folder.here()
     ended = runs.summaries(lambda line: say(f"rezovamy-runs: {line}"))
-    found, prefixes = with_running(ended, runs.going_on), runs.prefixes()
+    all_runs, prefixes = with_running(ended, runs.going_on), runs.prefixes()
+    known = [Listed(run, runs.notes(runs.folder / f"{run.id}.bundle")) for run in all_runs]
+    found = [one for one in known if one.is_asked_for(options)]
     if options.json:
         print_out(tables.as_json([value_of(run, prefixes) for run in found]))
     elif found:
         rows = [row_of(run, prefixes) for run in found]
         print_lines(tables.table(list(rows[0]), [list(row.values()) for row in rows], NUMBERS))
+    elif known:
+        say(
+            f"rezovamy-runs: none of {formatting.count(len(known), 'run')} is so: leave options out"
+        )
     else:
         say(f"rezovamy-runs: no run is in {runs.folder}: record one with `rezovamy-runs test`")
     return 0
 
 
-def row_of(run: Summary, prefixes: Mapping[str, str]) -> dict[str, object]:
+def part_text(listed: Listed, prefixes: Mapping[str, str]) -> str:
+    """Return in words how much of the tests a run has; nothing of a whole run."""
+    parent, shard = listed.run.parent, listed.notes.shard if listed.notes else None
+    if listed.part is Part.AGAIN and parent:
+        return f"again of {prefixes.get(parent, parent)}"
+    words = [f"shard {shard}" if shard else "", "" if listed.part is Part.WHOLE else listed.part]
+    return " ".join(filter(None, words))
+
+
+def row_of(listed: Listed, prefixes: Mapping[str, str]) -> dict[str, object]:
     """Return what is said of a run for people, by the heads of the columns."""
-    counts = run.counts
+    run, counts = listed.run, listed.run.counts
     return {
         "run": prefixes.get(run.id, run.id),
         "started": formatting.moment(run.started),
         "profile": formatting.name(run.profile),
+        "part": part_text(listed, prefixes),
         "passed": counts.passed,
         "failed": counts.failed,
         "flaky": counts.flaky,
@@ -70,9 +127,9 @@ def status_of(run: Summary) -> str:
     return word if run.exit_code is None else f"{word} {run.exit_code}"
 
 
-def value_of(run: Summary, prefixes: Mapping[str, str]) -> dict[str, object]:
+def value_of(listed: Listed, prefixes: Mapping[str, str]) -> dict[str, object]:
     """Return what is said of a run for scripts; instants and lengths are seconds."""
-    counts = run.counts
+    run, counts = listed.run, listed.run.counts
     return {
         "id": run.id,
         "prefix": prefixes.get(run.id, run.id),
@@ -89,4 +146,6 @@ def value_of(run: Summary, prefixes: Mapping[str, str]) -> dict[str, object]:
         "seconds": run.elapsed,
         "bytes": run.size,
         "path": str(run.bundle.absolute()),
+        "part": listed.part,
+        "notes": notes.json_of(listed.notes) if listed.notes else None,
     }

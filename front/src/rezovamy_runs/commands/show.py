@@ -3,21 +3,26 @@
 from __future__ import annotations
 
 import argparse
+import contextlib
 import dataclasses
 import pathlib
+import shlex
 import sys
 
 from rezovamy_runs import terminal
 from rezovamy_runs.bundles import bundle
 from rezovamy_runs.command_line import add_run, options_of, print_lines
 from rezovamy_runs.faults.fault import Fault
+from rezovamy_runs.formatting import moment
 from rezovamy_runs.model import Run, Test
 from rezovamy_runs.report.run_text import Printer
 from rezovamy_runs.store import run_folder
-from rezovamy_runs.store.run_folder import Store
+from rezovamy_runs.store.run_folder import LAST, Store
 
 SUMMARY = "show what failed in a run with its outputs, or one test"
 TAKES_REST = False
+# In how many of the latest runs a test is looked for that a run lacks.
+MOST_RUNS = 50
 
 
 @dataclasses.dataclass(frozen=True)
@@ -51,7 +56,10 @@ def run(words: argparse.Namespace) -> int:
     found = bundle.read_run(path)
     printer = Printer(terminal.Paint(terminal.colours(sys.stdout)))
     if test is not None:
-        print_lines(printer.tests(named(found, test), True))
+        tests = named(found, test)
+        if not tests:
+            raise not_there(runs, found, test)
+        print_lines(printer.tests(tests, True))
         return 0
     print_lines(
         [
@@ -68,10 +76,10 @@ def run(words: argparse.Namespace) -> int:
 def chosen(runs: Store, first: str | None, second: str | None) -> tuple[pathlib.Path, str | None]:
     """Return the bundle and the test that the words name."""
     if first is None or second is not None:
-        return runs.find(first or "last"), second
+        return runs.find(first or LAST), second
     if runs.names_run(first):
         return runs.find(first), None
-    return runs.find("last"), first
+    return runs.find(LAST), first
 
 
 def named(run: Run, word: str) -> list[Test]:
@@ -80,10 +88,24 @@ def named(run: Run, word: str) -> list[Test]:
     It is their name, their binary and their name, or a part of it.
     """
     exact = [test for test in run.tests if word in (test.name, f"{test.binary} {test.name}")]
-    found = exact or [test for test in run.tests if word in f"{test.binary} {test.name}"]
-    if not found:
-        raise Fault(
-            f"no test of run {run.id} has {word} in its name, and no run begins so: "
-            "`show --all` names all tests"
-        )
-    return found
+    return exact or [test for test in run.tests if word in f"{test.binary} {test.name}"]
+
+
+def not_there(runs: Store, run: Run, word: str) -> Fault:
+    """Return the fault of a word that names no test of a run, and say in which run it was last."""
+    nothing = f"no test of run {run.id} has {word} in its name"
+    last = last_with(runs, word) if runs.is_somewhere() else None
+    if last:
+        shown = shlex.join(["rezovamy-runs", "show", runs.shortest(last.id), word])
+        return Fault(f"{nothing}; it was last in the run of {moment(last.started)}: `{shown}`")
+    return Fault(f"{nothing}, and no run begins so: `show --all` names all tests")
+
+
+def last_with(runs: Store, word: str) -> Run | None:
+    """Return the latest run of which a test has the word in its name, None if no recent one."""
+    for one in runs.summaries(lambda line: None)[:MOST_RUNS]:
+        with contextlib.suppress(Fault, FileNotFoundError):
+            run = bundle.read_run(one.bundle, outputs=False)
+            if named(run, word):
+                return run
+    return None

@@ -175,8 +175,8 @@ class Outputs:
 
     def keep(self, session: Session) -> int:
         """Record a session, print what came of it, and return the status of its tests."""
-        notes = self._notes_of(session.suites)
-        with self.runs.noting(session.run_id, notes):
+        with self.runs.recording(session.run_id):
+            self.runs.note(session.run_id, self._notes_of(session.suites))
             return self._keep(session.status, lambda: whole_session.record(self.runs, session))
 
     def run(self, process_run: ProcessRun, judge: Judge = status_of) -> int:
@@ -186,22 +186,18 @@ class Outputs:
         """
         self.prepare()
         try:
-            made = process_run.run(self.runs, self._note)
+            with self.runs.recording(process_run.run_id):
+                made = process_run.run(self.runs, self._notes_of)
+                self._keep(made.status, made.record)
         except BuildFailed as failed:
             return failed.status
-        self._keep(made.status, made.record)
         return judge(made)
 
-    def _note(self, run_id: str, suites: Suites, build_seconds: float) -> None:
-        """Keep what is known of a run before its first test."""
-        known = dataclasses.replace(self._notes_of(suites), build_seconds=build_seconds)
-        self.runs.note(run_id, known)
-
-    def _notes_of(self, suites: Suites) -> RunNotes:
+    def _notes_of(self, suites: Suites, build_seconds: float | None = None) -> RunNotes:
         """Return what is known of a run with these tests."""
         tests = sum(map(len, suites.values()))
         part = run_facts.part_of(self.notes, tests, self.is_chosen)
-        return dataclasses.replace(self.notes, part=part)
+        return dataclasses.replace(self.notes, part=part, build_seconds=build_seconds)
 
     def _keep(self, status: int, record: Callable[[], pathlib.Path]) -> int:
         """Record a run that ended with a status, and print what came of it."""
@@ -223,7 +219,7 @@ class Outputs:
             page = page_command.written(document.page_of(path), page_command.beside(path))
             print_out(f"{page}\n")
         if self.junit:
-            junit_command.write(path, junit_command.beside(self.runs))
+            junit_command.write_beside(path, self.runs)
 
 
 class Following:

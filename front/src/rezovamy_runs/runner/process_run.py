@@ -24,7 +24,7 @@ from rezovamy_runs.runner.process_session import ProcessSession, RunName
 from rezovamy_runs.runner.rerun_plan import Plan
 from rezovamy_runs.runner.session_builder import members_of_rerun
 from rezovamy_runs.store.live_folder import LiveFolder
-from rezovamy_runs.store.notes import Shard
+from rezovamy_runs.store.notes import RunNotes, Shard
 from rezovamy_runs.store.run_folder import Store
 from rezovamy_runs.streams.session_json import HEAD
 from rezovamy_runs.streams.session_writer import NEXTEST_VERSION, Suites, length, moment
@@ -74,10 +74,6 @@ def slots_of(words: Sequence[str]) -> int:
     return len(os.sched_getaffinity(0))
 
 
-# Notes a run by its id, its tests by binary, and how many seconds they were built.
-Note = Callable[[str, Suites, float], None]
-
-
 @dataclasses.dataclass(frozen=True)
 class Recordable:
     """A run that ended: its status, its tests by binary, its recording, and the last head."""
@@ -106,10 +102,15 @@ class ProcessRun:
         self._calls, self._options, self._plan = calls, options, plan
         self._name = RunName(str(uuid.uuid4()), profile, cli_args)
 
-    def run(self, store: Store, note: Note) -> Recordable:
+    @property
+    def run_id(self) -> str:
+        """Return the id of the run."""
+        return self._name.run_id
+
+    def run(self, store: Store, known: Callable[[Suites, float], RunNotes]) -> Recordable:
         """Collect the tests, run them, and record what happens; the recording is to be finished.
 
-        What is known of the run before the first test is noted.
+        `known` says what to note of the run, by its tests and how long they were built.
         """
         with Loop() as loop:
             collector = Collector(loop, asks_for_all=self._plan is not None)
@@ -121,7 +122,7 @@ class ProcessRun:
                 raise Fault(f"{nothing}: see what stands above, and what was asked for", 1)
             if self._plan:
                 forget_tests(self._plan, listed)
-            note(self._name.run_id, suites_of(listed), collector.build_seconds)
+            store.note(self.run_id, known(suites_of(listed), collector.build_seconds))
             return self._run_listed(loop, store, listed)
 
     def _run_listed(self, loop: Loop, store: Store, listed: Sequence[Listed]) -> Recordable:

@@ -1,9 +1,9 @@
-"""Says where the runs of a workspace are: in its target directory, as cargo or its manifests say.
-"""
+"""Says where the runs of a workspace are: in a folder of their own in the user's state folder."""
 
 from __future__ import annotations
 
 import dataclasses
+import hashlib
 import os
 import pathlib
 import re
@@ -11,9 +11,19 @@ import re
 from rezovamy_runs import cargo
 from rezovamy_runs.faults.fault import Fault
 
-FOLDER = "rezovamy-runs"
+# The folder of all runs in the state folder.
+STATE = "rezovamy"
+# Where runs were kept in a target directory before.
+OLDER = "rezovamy-runs"
+# What marks a folder as one of files that can be made again.
+TAG_FILE = "CACHEDIR.TAG"
+TAG = (
+    "Signature: 8a477f597d28d172789f06886806bc55\n"
+    "# The target directory of cargo, which can be made again.\n"
+)
 # The variable of the environment that names the folder of the runs.
 VARIABLE = "REZOVAMY_RUNS"
+NOT_PLAIN = re.compile(r"[^\w.-]", re.A)
 WORKSPACE = re.compile(r"^\s*\[workspace", re.M)
 
 
@@ -70,4 +80,33 @@ def runs_folder(found: Workspace | None) -> pathlib.Path:
             "no Cargo.toml is here or above: go into a workspace, "
             f"or name the folder of the runs in {VARIABLE}"
         )
-    return found.target / FOLDER
+    return state_folder() / STATE / name_of(found.root)
+
+
+def name_of(root: pathlib.Path) -> str:
+    """Return the name of a workspace's folder of runs: its own name and a hash of its path.
+
+    So two workspaces of one name have two folders.
+    """
+    path = os.path.realpath(root)
+    digest = hashlib.sha256(os.fsencode(path)).hexdigest()[:10]
+    return f"{NOT_PLAIN.sub('_', os.path.basename(path))[:40]}-{digest}"
+
+
+def state_folder() -> pathlib.Path:
+    """Return the folder for what programs keep of a user, by the XDG Base Directory standard."""
+    named = pathlib.Path(os.environ.get("XDG_STATE_HOME", ""))
+    if named.is_absolute():
+        return named
+    try:
+        return pathlib.Path.home() / ".local/state"
+    except RuntimeError as error:
+        said = f"no home folder is known: name the folder of the runs in {VARIABLE}"
+        raise Fault(said) from error
+
+
+def make_target(target: pathlib.Path) -> None:
+    """Make a target directory if it isn't there, marked as cargo does: no backup has it then."""
+    if not target.exists():
+        target.mkdir(parents=True, exist_ok=True)
+        (target / TAG_FILE).write_text(TAG)

@@ -7,6 +7,7 @@ import errno
 import functools
 import os
 import pathlib
+import shlex
 import time
 from collections.abc import Callable, Iterator
 
@@ -15,17 +16,16 @@ from rezovamy_runs.bundles import bundle, bundle_file
 from rezovamy_runs.command_line import say
 from rezovamy_runs.faults.fault import Fault
 from rezovamy_runs.model import Summary
-from rezovamy_runs.store import location, notes, whole_file
+from rezovamy_runs.store import live_folder, location, notes, whole_file
 from rezovamy_runs.store.live_folder import RUN_ID, LiveFolder, settle_all
-from rezovamy_runs.store.notes import RunNotes, WrongNotes
+from rezovamy_runs.store.notes import Part, RunNotes, WrongNotes
 
 ASIDE, PAGE = ".aside", ".html"
-# What marks a folder as one of files that can be made anew.
-TAG_FILE = "CACHEDIR.TAG"
-TAG = (
-    "Signature: 8a477f597d28d172789f06886806bc55\n"
-    "# The target directory of cargo, which can be made anew.\n"
-)
+JUNIT = "rezovamy-junit"
+# The words for the last whole run, and for the last one of all.
+LAST, LAST_ANY = "last", "last-any"
+# A file in the folder once the runs in the target directory were named.
+TOLD = ".runs-in-target-told"
 # A file that was written aside and has no writer any more; no recording takes that long.
 ABANDONED_AFTER = 24 * 3600
 SHORTEST_PREFIX = 4
@@ -54,12 +54,27 @@ class Store:
         """Return the folder of the workspace whose runs these are, None if it isn't known."""
         return None
 
+    def junit_folder(self) -> pathlib.Path:
+        """Return the folder for JUnit XML if none is named: beside that of the runs."""
+        # In `.` and `..` no word names the folder, so that nothing stands before it.
+        folder = self.folder.resolve() if self.folder.name in ("", "..") else self.folder
+        return folder.parent / JUNIT
+
+    def prepare_junit(self) -> None:
+        """Make what the folder for JUnit XML is in, if that needs more than to be made."""
+
     def ids(self) -> list[str]:
         """Return the ids of the runs, in the order of their letters."""
+        return sorted({one for ending in bundle_file.ENDINGS for one in self.names(ending)})
+
+    def names(self, ending: str) -> list[str]:
+        """Return the ids in the folder that have this ending, in the order of their letters."""
         if not self.folder.is_dir():
             return []
-        names = filter(bundle_file.is_named_so, os.listdir(self.folder))
-        return sorted(set(filter(RUN_ID.fullmatch, map(bundle_file.stem_of, names))))
+        names = (
+            name.removesuffix(ending) for name in os.listdir(self.folder) if name.endswith(ending)
+        )
+        return sorted(name for name in names if RUN_ID.fullmatch(name))
 
     def all_ids(self) -> list[str]:
         """Return the ids of all runs, also of those that go on, in the order of their letters."""
@@ -87,10 +102,12 @@ class Store:
     def find(self, word: str) -> pathlib.Path:
         """Return the bundle of the run that a word names.
 
-        The word is `last`, the beginning of the run's id, or the path of a bundle.
+        The word is `last`, `last-any`, the beginning of the run's id, or the path of a bundle.
         """
-        if word == "last":
+        if word == LAST:
             return self.last()
+        if word == LAST_ANY:
+            return self.path_of(self.by_start()[0])
         if is_bundle(word):
             return pathlib.Path(word)
         if bundle_file.is_named_so(word):
@@ -111,7 +128,7 @@ class Store:
     def names_run(self, word: str) -> bool:
         """Tell whether `find` takes a word for the name of a run, be it one or more."""
         is_path = is_bundle(word) or bundle_file.is_named_so(word)
-        return word == "last" or is_path or bool(self.matching(word))
+        return word in (LAST, LAST_ANY) or is_path or bool(self.matching(word))
 
     def matching(self, word: str) -> list[str]:
         """Return the ids that begin with a word, which may be in upper case."""
@@ -124,15 +141,44 @@ class Store:
         how_far = "`rezovamy-runs list` shows how far it is"
         raise Fault(f"run {run_id} goes on: look again once it has ended; {how_far}")
 
-    def last(self) -> pathlib.Path:
-        """Return the bundle of the run that started last; one that can't be read isn't it."""
+    def by_start(self) -> list[str]:
+        """Return the ids of the readable runs, the latest first; it is a fault if none is there."""
         started = []
         for run_id in self.ids():
             with contextlib.suppress(Fault, FileNotFoundError):
                 started.append((bundle.read_start(self.path_of(run_id)), run_id))
         if not started:
             raise Fault(f"no run is in {self.folder}: record one with `rezovamy-runs test`")
-        return self.path_of(max(started)[1])
+        return [run_id for _, run_id in sorted(started, reverse=True)]
+
+    def last(self) -> pathlib.Path:
+        """Return the bundle of the last whole run, or of the last one if none is whole."""
+        runs = self.by_start()
+        found = next((run_id for run_id in runs if self.is_whole(run_id)), runs[0])
+        if found != runs[0]:
+            named = self.shortest(found)
+            say(
+                f"rezovamy-runs: {named} is the last whole run; `{LAST_ANY}` is a later part of one"
+            )
+        return self.path_of(found)
+
+    def is_whole(self, run_id: str) -> bool:
+        """Tell whether a run has all tests: it is no part, and no shard."""
+        path = self.path_of(run_id)
+        known = self.notes(path)
+        if known:
+            return known.part is Part.WHOLE and known.shard is None
+        return bundle.read_parent(path) is None
+
+    def last_in_row(self) -> pathlib.Path:
+        """Return the bundle of the last whole run, or of the last rerun of it or of its reruns."""
+        found = bundle_file.stem_of(self.last().name)
+        row = [found]
+        for run_id in reversed(self.by_start()):
+            with contextlib.suppress(Fault, FileNotFoundError):
+                if bundle.read_parent(self.path_of(run_id)) in row:
+                    row.append(run_id)
+        return self.path_of(row[-1])
 
     def prefixes(self) -> dict[str, str]:
         """Return for each id its shortest beginning of four letters or more that no other has."""
@@ -205,28 +251,29 @@ class Store:
                 pass
             compressed.unlink(missing_ok=True)
 
-    @contextlib.contextmanager
-    def noting(self, run_id: str, known: RunNotes) -> Iterator[None]:
-        """Write what is known of a run that is recorded meanwhile; after a fault it goes.
+    def note(self, run_id: str, known: RunNotes) -> None:
+        """Write what is known of a run, before it has a bundle: whoever finds that finds both.
 
-        So whoever finds a bundle finds its notes too. If they can't be written, that is said, and
-        the run is recorded nevertheless.
+        If the notes can't be written, that is said, and the run goes on.
         """
-        self.note(run_id, known)
+        try:
+            self.prepare()
+            with self.writable():
+                notes.write(known, self.folder / f"{run_id}{notes.ENDING}")
+        except Fault as fault:
+            say(f"rezovamy-runs: the notes of the run aren't kept: {fault}")
+
+    @contextlib.contextmanager
+    def recording(self, run_id: str) -> Iterator[None]:
+        """Remove the notes of a run that is recorded meanwhile if nothing is kept of it."""
         try:
             yield
         except BaseException:
-            if not self.path_of(run_id).exists():
-                self.remove(run_id)
+            live = self.folder / f"{run_id}{live_folder.ENDING}"
+            if not self.path_of(run_id).exists() and not live.exists():
+                with contextlib.suppress(OSError):
+                    (self.folder / f"{run_id}{notes.ENDING}").unlink(missing_ok=True)
             raise
-
-    def note(self, run_id: str, known: RunNotes) -> None:
-        """Write what is known of a run. If that can't be written, it is said."""
-        try:
-            with self.writable():
-                notes.write(known, notes.path_beside(self.path_of(run_id)))
-        except Fault as fault:
-            say(f"rezovamy-runs: the notes of the run aren't kept: {fault}")
 
     def notes(self, path: pathlib.Path) -> RunNotes | None:
         """Return what is known of the run of a bundle, None if it has no notes.
@@ -301,11 +348,6 @@ class Here(Store):
         """Pack the runs that were stopped, and return the folders of those that go on."""
         return settle_all(self, lambda line: say(f"rezovamy-runs: {line}"))
 
-    def ids(self) -> list[str]:
-        """Return the ids of the runs, once those that were stopped are packed."""
-        assert self.going_on is not None
-        return super().ids()
-
     def is_somewhere(self) -> bool:
         """Tell whether it is known where the folder is."""
         try:
@@ -313,18 +355,39 @@ class Here(Store):
         except Fault:
             return False
 
-    def prepare(self) -> None:
-        """Make the folder.
+    def ids(self) -> list[str]:
+        """Return the ids of the runs, once those that were stopped are packed.
 
-        A target directory that is made with it is marked as cargo marks its own: no backup has it
-        then.
+        At the first time, name those in the target directory.
         """
-        target = self.folder.parent
-        is_cargos = location.named_folder() is None and not target.exists()
-        super().prepare()
-        if is_cargos:
-            with self.writable():
-                (target / TAG_FILE).write_text(TAG)
+        assert self.going_on is not None
+        if location.named_folder() is None and self.workspace:
+            self._tell_of_older(self.workspace.target / location.OLDER)
+        return super().ids()
+
+    def _tell_of_older(self, older: pathlib.Path) -> None:
+        """Say once that runs are where they were kept before, and how they are taken over."""
+        told, count = self.folder / TOLD, len(Store(older).ids())
+        if not count or told.exists():
+            return
+        verb, them = ("is", "it") if count == 1 else ("are", "them")
+        found = f"{formatting.count(count, 'run')} of an earlier version {verb}"
+        take = f"`rezovamy-runs import {shlex.quote(str(older))}` takes {them} over"
+        say(f"rezovamy-runs: {found} in the target directory: {take}")
+        with contextlib.suppress(OSError):
+            self.folder.mkdir(parents=True, exist_ok=True)
+            told.touch()
+
+    def junit_folder(self) -> pathlib.Path:
+        """Return the folder for JUnit XML: in the target directory, or beside a named folder."""
+        if location.named_folder() is not None or self.workspace is None:
+            return super().junit_folder()
+        return self.workspace.target / JUNIT
+
+    def prepare_junit(self) -> None:
+        """Make what the folder for JUnit XML is in, if that is the target directory."""
+        if location.named_folder() is None and self.workspace is not None:
+            location.make_target(self.workspace.target)
 
 
 def here(manifest: str | None = None) -> Store:
