@@ -61,6 +61,7 @@ def front_end(crate: pathlib.Path, program: pathlib.Path) -> FrontEnd:
         "CARGO_INCREMENTAL": "0",
         "RUST_BACKTRACE": "0",
         "STARTED": str(crate / "started"),
+        "XDG_STATE_HOME": str(crate / "state"),
     }
     left = {name: value for name, value in os.environ.items() if name not in LEFT_OUT}
     return FrontEnd(crate, {**left, **own})
@@ -75,7 +76,7 @@ def test_a_run_with_a_failure(front_end: FrontEnd, way: tuple[str, ...]) -> None
         "2 tests in ",
         "] tiny fails (exit code 101)",
         "assertion `left == right` failed: one is not two",
-        f"in {front_end.folder}/target/rezovamy-runs/",
+        f"in {front_end.folder}/state/rezovamy/tiny",
     ):
         assert part in done.stdout
     assert "    fine\n" in front_end.run("show", "passes", folder="src").stdout
