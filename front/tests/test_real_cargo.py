@@ -82,7 +82,7 @@ def test_a_run_with_a_failure(front_end: FrontEnd, way: tuple[str, ...]) -> None
     assert "    fine\n" in front_end.run("show", "passes", folder="src").stdout
     assert front_end.run("test", *way, "--", "--lib", "--", "passes", folder="src").returncode == 0
     before = json.loads(front_end.output("list", "--json"))[1]["id"]
-    compared = json.loads(front_end.run("compare", before, "--json").stdout)
+    compared = json.loads(front_end.run("compare", before, "last-any", "--json").stdout)
     assert [test["test"] for test in compared["gone"]] == ["fails", "hangs"]
 
 
