@@ -61,6 +61,7 @@ def front_end(crate: pathlib.Path, program: pathlib.Path) -> FrontEnd:
         "CARGO_INCREMENTAL": "0",
         "RUST_BACKTRACE": "0",
         "STARTED": str(crate / "started"),
+        "XDG_STATE_HOME": str(crate / "state"),
     }
     left = {name: value for name, value in os.environ.items() if name not in LEFT_OUT}
     return FrontEnd(crate, {**left, **own})
@@ -74,7 +75,7 @@ def test_a_run_with_a_failure(front_end: FrontEnd, way: tuple[str, ...]) -> None
     for part in (
         "2 tests in ",
         "] tiny fails (exit code 101)",
-        f"in {front_end.folder}/target/rezovamy-runs/",
+        f"in {front_end.folder}/state/rezovamy/tiny",
     ):
         assert part in done.stdout
     why = "assertion `left == right` failed: one is not two"
@@ -82,7 +83,7 @@ def test_a_run_with_a_failure(front_end: FrontEnd, way: tuple[str, ...]) -> None
     assert "    fine\n" in front_end.run("show", "passes", folder="src").stdout
     assert front_end.run("test", *way, "--", "--lib", "--", "passes", folder="src").returncode == 0
     before = json.loads(front_end.output("list", "--json"))[1]["id"]
-    compared = json.loads(front_end.run("compare", before, "--json").stdout)
+    compared = json.loads(front_end.run("compare", before, "last-any", "--json").stdout)
     assert [test["test"] for test in compared["gone"]] == ["fails", "hangs"]
 
 

@@ -103,6 +103,18 @@ def test_a_run_that_is_killed(endings: FrontEnd, victim: str) -> None:
     assert shown.endswith("; the recording stopped before the run ended\n")
 
 
+def test_a_run_in_shared_processes_that_is_killed(endings: FrontEnd) -> None:
+    """It is the same as in processes of their own."""
+    words = ("test", "--shared", *ENDS[1:], "passes", "hangs", "--test-threads=4")
+    with started(endings, *words) as run:
+        wait_until(lambda: is_at(endings, passed=2, failed=0, unended=1))
+        run.kill("first")
+        wait_until(lambda: not run.processes(), MOMENT)
+    counts = told(only_run(endings), "status", "passed", "failed", "unended")
+    assert counts == ("incomplete", 2, 0, 1)
+    assert "    fine\n" in endings.output("show", "passes")
+
+
 def test_the_xml_of_a_run_that_was_killed(endings: FrontEnd) -> None:
     """It has what ended, and errors for what ran and for what never started."""
     words = (*ENDS, "passes", "hangs", "exits_with_0", "--test-threads=1")

@@ -74,10 +74,6 @@ def slots_of(words: Sequence[str]) -> int:
     return len(os.sched_getaffinity(0))
 
 
-# Notes a run by its id, its tests by binary, and how many seconds they were built.
-Note = Callable[[str, Suites, float], None]
-
-
 @dataclasses.dataclass(frozen=True)
 class Recordable:
     """A run that ended: its status, its tests by binary, its recording, and the last head."""

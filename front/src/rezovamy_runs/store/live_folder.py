@@ -46,9 +46,10 @@ class LiveFolder:
 
     def begin(self) -> IO[bytes]:
         """Make the folder, and return its lock, which is held until it is closed everywhere."""
-        self.path.mkdir()
-        lock = open(self.path / LOCK, "wb")
-        fcntl.flock(lock, fcntl.LOCK_SH)
+        with self._store.writable():
+            self.path.mkdir()
+            lock = open(self.path / LOCK, "wb")
+            fcntl.flock(lock, fcntl.LOCK_SH)
         return lock
 
     def has_events(self) -> bool:
