@@ -7,7 +7,6 @@ import errno
 import functools
 import os
 import pathlib
-import re
 import shlex
 import time
 from collections.abc import Callable, Iterable, Iterator
