@@ -23,3 +23,7 @@ returns-in-Slots g c = rw c.in-Slots.is c.write-in-Slots.ensures
 
 pub returns-in-OutOfMemory : goal.returns-in-OutOfMemory
 returns-in-OutOfMemory g c = rw c.in-OutOfMemory.is c.name.ensures
+
+pub returns-in-OutputChanged : goal.returns-in-OutputChanged
+returns-in-OutputChanged g c =
+    rw (c.in-OutputChanged.is, ← c.as_str.ensures.value) c.text.ensures
