@@ -360,10 +360,10 @@ LOOKS = (
 )
 
 
-def look(folder: Folder) -> subprocess.Popen[str]:
+def look(folder: Folder, code: str = LOOKS) -> subprocess.Popen[str]:
     """Start a process that counts the runs of a folder by its index."""
     return subprocess.Popen(
-        [sys.executable, "-c", LOOKS, str(folder.path)],
+        [sys.executable, "-c", code, str(folder.path)],
         env={**os.environ, "PYTHONPATH": str(FRONT / "src")},
         stdout=subprocess.PIPE,
         stderr=subprocess.PIPE,
@@ -380,27 +380,42 @@ def test_two_writers_at_once(folder: Folder) -> None:
         assert next(database.rows("SELECT COUNT(*) FROM outcomes")) == (360,)
 
 
-def test_a_writer_that_is_killed(folder: Folder) -> None:
+# A writer that takes its time, so that it is killed within a transaction.
+SLOWLY = (
+    "import time\n"
+    "from rezovamy_runs.history.database import SqliteDatabase\n"
+    "whole = SqliteDatabase.insert\n"
+    "def insert(*words):\n"
+    "    whole(*words)\n"
+    "    time.sleep(0.02)\n"
+    "SqliteDatabase.insert = insert\n"
+)
+
+
+def runs_in(path: pathlib.Path) -> int:
+    """Return how many runs the file of an index has; each has all its tests."""
+    with contextlib.closing(SqliteDatabase(path)) as database:
+        if not schema.has_tables(database, 1):
+            return 0
+        tests = "SELECT COUNT(*) FROM outcomes GROUP BY run"
+        assert all(count == (6,) for count in database.rows(tests))
+        return int(next(database.rows("SELECT COUNT(*) FROM runs"))[0])
+
+
+@pytest.mark.parametrize("least", [0, 1, 5, 20])
+def test_a_writer_that_is_killed(folder: Folder, least: int) -> None:
     """Each run is there whole or not at all, whenever it is killed, and the rest comes later."""
     for number in range(1, 61):
         folder.add(number, ".F.~..")
-    path, kept = folder.path / opening.FILE, set()
-    for delay in range(8):
-        opening.remove(path)
-        process = look(folder)
-        until = time.monotonic() + 30
-        while not path.exists() and time.monotonic() < until:
-            time.sleep(0.002)
-        time.sleep(delay * 0.02)
-        process.send_signal(signal.SIGKILL)
-        process.communicate()
-        with contextlib.closing(SqliteDatabase(path)) as database:
-            if schema.has_tables(database, 1):
-                kept.add(next(database.rows("SELECT COUNT(*) FROM runs"))[0])
-                outcomes = "SELECT COUNT(*) FROM outcomes GROUP BY run"
-                assert all(count == (6,) for count in database.rows(outcomes))
-        assert count_runs(folder, []) == 60
-    assert len(kept) > 1
+    path = folder.path / opening.FILE
+    process = look(folder, SLOWLY + LOOKS)
+    until = time.monotonic() + 60
+    while (not path.exists() or runs_in(path) < least) and time.monotonic() < until:
+        time.sleep(0.005)
+    process.send_signal(signal.SIGKILL)
+    process.communicate()
+    assert least <= runs_in(path) < 60
+    assert count_runs(folder, []) == 60
 
 
 def is_running(process: str) -> bool:

@@ -9,13 +9,14 @@ import pathlib
 import signal
 from collections.abc import Callable, Iterable, Iterator
 
+from rezovamy_runs.bundles import bundle_file
 from rezovamy_runs.faults.fault import Fault
 from rezovamy_runs.history import schema
 from rezovamy_runs.history.database import Database
 from rezovamy_runs.history.rows import Recorded, key_of_run, key_of_test, outcomes_of
 from rezovamy_runs.processes.descendants import ask_for_signal_at_death_of_parent
 from rezovamy_runs.store import notes
-from rezovamy_runs.store.run_folder import Store
+from rezovamy_runs.store.run_folder import RUN_ID, Store
 
 # With fewer new runs than this, it takes longer to start processes than to read.
 FEWEST_FOR_PROCESSES = 8
@@ -36,12 +37,16 @@ def stamps(runs: Store) -> dict[str, str]:
         return {}
     with os.scandir(runs.folder) as entries:
         sizes = {entry.name: entry.stat().st_size for entry in entries if entry.is_file()}
-    found = {}
-    for run_id in runs.ids():
-        path = runs.path_of(run_id)
-        parts = (path.name, notes.path_beside(path).name)
-        found[run_id] = "+".join(str(sizes.get(name, 0)) for name in parts)
-    return found
+    return {
+        bundle_file.stem_of(name): f"{size}+{sizes.get(notes_name(name), 0)}"
+        for name, size in sorted(sizes.items())
+        if bundle_file.is_named_so(name) and RUN_ID.fullmatch(bundle_file.stem_of(name))
+    }
+
+
+def notes_name(bundle: str) -> str:
+    """Return the name of the notes beside a bundle."""
+    return f"{bundle_file.stem_of(bundle)}{notes.ENDING}"
 
 
 def update(database: Database, runs: Store, say: Say, forgets: bool = True) -> None:

@@ -30,7 +30,9 @@ DOUBTFUL_TESTS = """
 ALL_TESTS = "SELECT test FROM tests"
 TOLD = "SELECT o.run, o.test, o.verdict, o.seconds, o.attempts, o.message FROM "
 OF_RUNS = TOLD + "outcomes o WHERE o.run IN ({runs})"
-OF_TEST = TOLD + "runs r JOIN outcomes o ON o.run = r.run WHERE r.started >= ? AND o.test = ?"
+OF_TEST = (
+    TOLD + "runs r CROSS JOIN outcomes o WHERE r.started >= ? AND o.run = r.run AND o.test = ?"
+)
 COUNT = "SELECT COUNT(DISTINCT test) FROM outcomes WHERE run IN ({runs}) AND verdict <> 'skip'"
 
 
