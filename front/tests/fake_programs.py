@@ -24,49 +24,72 @@ elif sys.argv[1] == "record":
     (folder / "session").write_text(session)
     pathlib.Path(sys.argv[2]).write_bytes(made.bundle_of(session))
 """
-# It keeps its words, and runs the tests after `--exact`: those whose names begin with `bad` fail,
-# and one hangs; it has none whose name begins with `gone`, and besides as many as the file `others`
-# says.
+# It keeps its words, and lets the runner that they name run the binary, which is beside it.
 CARGO = f"""#!{sys.executable}
-import json, pathlib, sys, time
-folder = pathlib.Path(__file__).parent
-if sys.argv[1] == "metadata":
+import json, os, pathlib, subprocess, sys
+folder, words = pathlib.Path(__file__).parent, sys.argv[1:]
+if words[0] == "metadata":
     print((folder / "metadata").read_text())
+if words[0] == "-vV":
+    print("host: some-triple")
+if words[0] != "test":
     sys.exit(0)
 if sys.argv[1:] == ["-V"]:
     print("cargo 1.2.3")
     sys.exit(0)
 with open(folder / "asked", "a") as asked:
-    asked.write(json.dumps(sys.argv[1:]) + "\\n")
-asked_for = sys.argv[sys.argv.index("--exact") + 1:] if "--exact" in sys.argv else ["t0"]
-names = [name for name in asked_for if "gone" not in name]
-kind = sys.argv[sys.argv.index("-p") + 2]
-name = sys.argv[sys.argv.index(kind) + 1] if kind != "--lib" else "alpha"
-say = lambda value: print(json.dumps(value) if isinstance(value, dict) else value, flush=True)
-file = f"target/debug/deps/{{name}}-0123456789abcdef"
-say({{
+    asked.write(json.dumps(words) + "\\n")
+kind = words[words.index("-p") + 2]
+name = words[words.index(kind) + 1] if kind != "--lib" else "alpha"
+runner = json.loads(words[words.index("--config") + 1].partition("=")[2])
+of_tests = words[words.index("--") + 1:] if "--" in words else []
+binary = folder / f"{{name}}-0123456789abcdef"
+binary.write_text((folder / "binary").read_text())
+binary.chmod(0o755)
+print(json.dumps({{
     "reason": "compiler-artifact", "package_id": "path+file:///alpha#0.1.0",
     "target": {{"kind": [kind.lstrip("-")], "name": name}}, "profile": {{"test": True}},
-    "executable": "/" + file, "manifest_path": str(folder / "Cargo.toml"),
-}})
-say(f"     Running x.rs ({{file}})")
-say({{"type": "suite", "event": "started", "test_count": len(names)}})
-for test in names:
-    say({{"type": "test", "event": "started", "name": test}})
+    "executable": str(binary), "manifest_path": str(folder / "Cargo.toml"),
+}}), flush=True)
+environment = {{**os.environ, "CARGO_PKG_NAME": "alpha"}}
+sys.exit(subprocess.run([*runner, binary, *of_tests], env=environment).returncode)
+"""
+# It has the tests after `--exact`: those whose names begin with `bad` fail, one exits, one crashes
+# and one hangs; it has none whose name begins with `gone`, and besides as many as the file `others`
+# says.
+BINARY = f"""#!{sys.executable}
+import json, os, pathlib, sys, time
+folder, words = pathlib.Path(__file__).parent, sys.argv[1:]
+if "--help" in words:
+    print("--logfile")
+    sys.exit(0)
+asked_for = words[words.index("--exact") + 1:] if "--exact" in words else ["t0"]
+names = [name for name in asked_for if "gone" not in name and name[0] not in "-/"]
+known = folder / (pathlib.Path(__file__).name + ".names")
+if "--list" in words and "--exact" not in words:
+    others = folder / "others"
+    number = int(others.read_text()) if others.exists() else 0
+    names = known.read_text().split() if known.exists() else names
+    names += [f"other{{number}}" for number in range(number)]
+if "--list" in words:
+    if "--exact" in words:
+        known.write_text(" ".join(names))
+    print("".join(f"{{name}}: test\\n" for name in names if "--ignored" not in words), end="")
+    sys.exit(0)
+log = open(words[words.index("--logfile") + 1], "a")
+say = lambda text: print('{{ "type": "test", ' + text + ' }}', flush=True)
+for test in names[:1] if "--nocapture" in words and "--format" not in words else names:
+    say(f'"event": "started", "name": "{{test}}"')
     if test == "hangs":
+        (folder / "hanging").touch()
         time.sleep(600)
     if test == "exits":
-        sys.exit(0)
+        os._exit(0)
     if test == "crashes":
-        cause = "signal: 6, SIGABRT: process abort signal"
-        say(f"error: test failed, to rerun pass `-p alpha {{kind}} {{name}}`")
-        say(f"\\nCaused by:\\n  process didn't exit successfully: `{{file}}` ({{cause}})")
-        sys.exit(101)
+        os.abort()
     event = "failed" if test.startswith("bad") else "ok"
-    say({{"type": "test", "event": event, "name": test, "exec_time": 0.5}})
-others = folder / "others"
-filtered_out = int(others.read_text()) if others.exists() else 0
-say({{"type": "suite", "event": "ok", "filtered_out": filtered_out}})
+    print(event, test, file=log, flush=True)
+    say(f'"event": "{{event}}", "name": "{{test}}", "exec_time": 0.5')
 sys.exit(101 if any(test.startswith("bad") for test in names) else 0)
 """
 
@@ -80,7 +103,7 @@ class FakePrograms:
 
     def write(self) -> None:
         """Write them, and packages of which there are none."""
-        for name, text in (("rezovamy", PROGRAM), ("cargo", CARGO)):
+        for name, text in (("rezovamy", PROGRAM), ("cargo", CARGO), ("binary", BINARY)):
             (self.folder / name).write_text(text)
             (self.folder / name).chmod(0o755)
         self.write_metadata([])
@@ -104,8 +127,7 @@ class FakePrograms:
         """Return what stands after the words of each run of cargo that the front end sets."""
         path = self.folder / "asked"
         lines = path.read_text().splitlines() if path.exists() else []
-        runs = [[word for word in json.loads(line)] for line in lines]
-        return [[word for word in run if not word.startswith("--report")][4:] for run in runs]
+        return [without_runner(json.loads(line))[4:] for line in lines]
 
     def session(self) -> list[dict[str, object]]:
         """Return the session that was recorded."""
@@ -117,3 +139,9 @@ class FakePrograms:
         listed = self.session()[0]["test-list"]
         assert isinstance(listed, dict)
         return listed["suites"]
+
+
+def without_runner(words: list[str]) -> list[str]:
+    """Return the words of cargo without those that name a runner."""
+    place = words.index("--config")
+    return [*words[:place], *words[place + 2 :]]

@@ -11,6 +11,7 @@ from rezovamy_runs.processes.jobs import (
     Ended,
     Ending,
     Event,
+    Group,
     Job,
     Program,
     Script,
@@ -50,11 +51,14 @@ def script(name: str, text: str) -> Script:
 
 
 def events_of(
-    jobs: Iterable[Job], settings: Settings = Settings(4), scripts: Sequence[Script] = ()
+    jobs: Iterable[Job],
+    settings: Settings = Settings(4),
+    scripts: Sequence[Script] = (),
+    groups: Sequence[Group] = (),
 ) -> list[Event]:
     """Run tests, and return what was told but for the moments at which nothing happened."""
     with Loop() as loop:
-        run = Run(loop, jobs, settings, scripts)
+        run = Run(loop, jobs, settings, scripts, groups)
         return [event for event in run if not isinstance(event, Tick)]
 
 

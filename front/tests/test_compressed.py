@@ -64,7 +64,8 @@ def test_a_block_is_a_member_with_its_lengths() -> None:
     ("at", "size", "length"),
     [
         (0, 5, 5),
-        (blocks.BLOCK - 2, 5, 2),
+        (blocks.BLOCK - 2, 5, 5),
+        (1, 2 * blocks.BLOCK, 2 * blocks.BLOCK),
         (blocks.BLOCK, 5, 5),
         (2 * blocks.BLOCK + 20, 100, 8),
         (len(LONG), 5, 0),
@@ -72,7 +73,8 @@ def test_a_block_is_a_member_with_its_lengths() -> None:
         (3, 0, 0),
     ],
 )
-def test_a_part_is_read_to_the_end_of_its_block(at: int, size: int, length: int) -> None:
+def test_a_part_is_read_over_the_ends_of_blocks(at: int, size: int, length: int) -> None:
+    """An entry of a bundle may begin just before the end of one."""
     assert opened_blocks(compressed(LONG)).read(at, size) == LONG[at : at + length]
 
 

@@ -6,9 +6,7 @@ import json
 import os
 import pathlib
 import shutil
-import signal
 import subprocess
-import time
 
 import pytest
 
@@ -25,6 +23,7 @@ RUNNER = '#!/bin/sh\necho "through $1" >> "$THROUGH"\nshift\nexec "$@"\n'
 VARIABLE = "CARGO_TARGET_X86_64_UNKNOWN_LINUX_GNU_RUNNER"
 # How each test of `ways::ends` ends, and what is said of it.
 ENDS = {
+    "a_moment": (Result.PASS, ""),
     "passes": (Result.PASS, ""),
     "fails": (Result.FAIL, "exit code 101"),
     "answers_an_error": (Result.FAIL, "exit code 101"),
@@ -45,6 +44,8 @@ ENDS = {
     "prints_that_it_passed": (Result.FAIL, "exit code 0"),
     "passes_at_the_second_try": (Result.PASS, ""),
 }
+# In a process with other tests nothing tells which of them has left a child.
+SHARED_ENDS = {**ENDS, "leaks_a_child": (Result.PASS, "")}
 LIBRARY = ["tests::größer", "tests::is_stable", "tests::tells_where_it_runs"]
 WHOLE_RUN = {
     "twin::ends": ["passes"],
@@ -80,7 +81,7 @@ def endings(workspace: pathlib.Path, program: pathlib.Path, tmp_path: pathlib.Pa
 def last_run(front_end: FrontEnd) -> Run:
     """Return the run that was recorded last."""
     runs = json.loads(front_end.output("list", "--json"))
-    return bundle.read_run(front_end.path_of(runs[0]["id"]))
+    return bundle.read_run(runs[0]["path"])
 
 
 def names_of(run: Run) -> dict[str, list[str]]:
@@ -123,6 +124,35 @@ def test_each_way_of_ending(endings: FrontEnd) -> None:
     assert set(others.values()) == {Result.PASS}
     assert "the second example is wrong" in done.stderr
     assert "one is not two" in done.stderr
+
+
+@pytest.mark.parametrize("name", [name for name in ENDS if name not in ("a_moment", "hangs")])
+def test_each_way_of_ending_in_a_shared_process(endings: FrontEnd, name: str) -> None:
+    """The test beside it has passed, whatever became of their process."""
+    words = ["-p", "ways", "--test", "ends", "--", "--test-threads=2", "--exact", "a_moment", name]
+    done = endings.run("test", "--shared", "--", *words)
+    told = {
+        test.name: [(attempt.result, attempt.detail) for attempt in test.attempts]
+        for test in last_run(endings).tests
+    }
+    assert told == {"a_moment": [ENDS["a_moment"]], name: [SHARED_ENDS[name]]}, done.stderr
+    has_passed = SHARED_ENDS[name][0] is Result.PASS
+    assert done.returncode == (0 if has_passed else 101)
+
+
+def test_a_crash_of_a_shared_process(endings: FrontEnd) -> None:
+    """What ran beside it is told so, what hadn't started is named, and only the crash is red."""
+    words = ["-p", "ways", "--test", "ends", "--", "--test-threads=2", "--exact"]
+    done = endings.run("test", "--shared", "--", *words, "a_moment", "is_killed", "passes")
+    assert done.returncode == 101
+    said = "ran beside a crash: its process was ended by signal 9 while it and is_killed ran"
+    assert f"ways::ends a_moment: {said}; by itself it passed" in done.stderr
+    run = last_run(endings)
+    assert (run.counts.passed, run.counts.failed, run.counts.unseen) == (1, 1, 1)
+    assert "ways::ends passes" in endings.run("show").stdout
+    done = endings.run("again", "--shared")
+    assert done.returncode == 101
+    assert names_of(last_run(endings)) == {"ways::ends": ["is_killed", "passes"]}
 
 
 def test_nothing_is_compiled_again(endings: FrontEnd) -> None:
@@ -300,35 +330,3 @@ def test_failures_are_told_where_nothing_can_be_recorded(endings: FrontEnd) -> N
     assert done.returncode == 101
     assert "one is not two" in done.stderr
     assert "the tests failed, and besides: " in done.stderr
-
-
-def test_a_killed_front_end_leaves_no_process(endings: FrontEnd) -> None:
-    """It is gone, and so is the test that ran."""
-    words = endings.words("test", "--", "--test", "ends", "-p", "ways", "--", "hangs")
-    with subprocess.Popen(
-        words, cwd=endings.folder, env=endings.environment, stderr=subprocess.DEVNULL
-    ) as process:
-        wait_until(lambda: processes("hangs") == 1)
-        process.send_signal(signal.SIGKILL)
-    wait_until(lambda: processes("hangs") == 0)
-
-
-def processes(test: str) -> int:
-    """Count the processes that run this test."""
-    found = 0
-    for path in pathlib.Path("/proc").glob("[0-9]*/cmdline"):
-        try:
-            words = path.read_bytes().split(b"\0")
-        except OSError:
-            continue
-        found += b"--exact" in words and test.encode() in words
-    return found
-
-
-def wait_until(is_so: object) -> None:
-    """Wait until something is so."""
-    assert callable(is_so)
-    until = time.monotonic() + 60
-    while not is_so():
-        assert time.monotonic() < until
-        time.sleep(0.02)

@@ -61,6 +61,7 @@ def front_end(crate: pathlib.Path, program: pathlib.Path) -> FrontEnd:
         "CARGO_INCREMENTAL": "0",
         "RUST_BACKTRACE": "0",
         "STARTED": str(crate / "started"),
+        "XDG_STATE_HOME": str(crate / "state"),
     }
     left = {name: value for name, value in os.environ.items() if name not in LEFT_OUT}
     return FrontEnd(crate, {**left, **own})
@@ -75,13 +76,13 @@ def test_a_run_with_a_failure(front_end: FrontEnd, way: tuple[str, ...]) -> None
         "2 tests in ",
         "] tiny fails (exit code 101)",
         "assertion `left == right` failed: one is not two",
-        f"in {front_end.folder}/target/rezovamy-runs/",
+        f"in {front_end.folder}/state/rezovamy/tiny",
     ):
         assert part in done.stdout
     assert "    fine\n" in front_end.run("show", "passes", folder="src").stdout
     assert front_end.run("test", *way, "--", "--lib", "--", "passes", folder="src").returncode == 0
     before = json.loads(front_end.output("list", "--json"))[1]["id"]
-    compared = json.loads(front_end.run("compare", before, "--json").stdout)
+    compared = json.loads(front_end.run("compare", before, "last-any", "--json").stdout)
     assert [test["test"] for test in compared["gone"]] == ["fails", "hangs"]
 
 
@@ -106,21 +107,17 @@ def test_what_failed_runs_again(front_end: FrontEnd, way: tuple[str, ...]) -> No
     assert re.search("1 test in .*: 0 passed, 1 failed, 1 skipped\n", done.stdout)
 
 
-@pytest.mark.parametrize(
-    ("way", "ended"),
-    [((), {"failed": 1, "unended": 0}), (("--shared",), {"failed": 0, "unended": 1})],
-)
+@both_ways
 def test_a_run_that_is_broken_off_leaves_no_process(
-    front_end: FrontEnd, way: tuple[str, ...], ended: dict[str, int]
+    front_end: FrontEnd, way: tuple[str, ...]
 ) -> None:
-    """It is recorded as what it is. Of a test in a shared process nothing tells how it ended."""
+    """It is recorded as what it is, and so is the test that ran."""
     started = front_end.folder / "started"
     started.unlink(missing_ok=True)
     done = front_end.interrupt("test", *way, "--", "--", "--ignored", once=started.exists)
     assert done.returncode == 130
     last = json.loads(front_end.output("list", "--json"))[0]
-    assert last["status"] == "cancelled"
-    assert {name: last[name] for name in ended} == ended
+    assert (last["status"], last["failed"], last["unended"]) == ("cancelled", 1, 0)
     binaries = str(front_end.folder / "target/debug/deps/tiny-").encode()
     assert [words for words in command_lines() if words.startswith(binaries)] == []
 

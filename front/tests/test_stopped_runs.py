@@ -14,7 +14,7 @@ from xml.etree import ElementTree
 
 import pytest
 
-from tests import EXAMPLES
+from tests import EXAMPLES, made
 from tests.front_end import FrontEnd
 from tests.stopped_runs import ENDS, LEFT_OUT, is_at, listed, started, told, wait_until
 
@@ -22,10 +22,20 @@ pytestmark = [pytest.mark.cargo, pytest.mark.program]
 
 BUILT = shutil.ignore_patterns("target", "Cargo.lock")
 VICTIMS = pytest.mark.parametrize("victim", ["first", "worker", "group"])
-# How long the processes of a run that was killed have to go.
-MOMENT = 1.0
+# How long the processes of a run that was killed have to go, also on a machine that is busy.
+MOMENT = 3.0
 # `passes` and `passes_at_the_second_try`, `fails`, and `hangs` in one slot each.
 THREE_AND_HANGS = (*ENDS, "passes", "hangs", "fails", "--test-threads=4")
+WHOLE = [".bundle.gz", ".json"]
+# The folder of runs on a small disk, of which a copy is left.
+NO_SMALL_DISK = 77
+ON_A_SMALL_DISK = """
+mount -t tmpfs -o size=20k none "$REZOVAMY_RUNS" || exit 77
+"$@"
+status=$?
+cp -r "$REZOVAMY_RUNS" "$REZOVAMY_RUNS-left"
+exit $status
+"""
 SLOW_BUILD = 'fn main() { std::process::Command::new("sleep").arg("600").status().unwrap(); }'
 
 
@@ -53,8 +63,8 @@ def endings(workspace: pathlib.Path, program: pathlib.Path, tmp_path: pathlib.Pa
 
 
 def endings_of(front_end: FrontEnd) -> list[str]:
-    """Return the endings of the names in the folder of runs."""
-    return sorted(path.suffix for path in front_end.runs.iterdir())
+    """Return what stands behind the ids in the folder of runs."""
+    return sorted(path.name[len(made.ID) :] for path in front_end.runs.iterdir())
 
 
 def only_run(front_end: FrontEnd) -> dict[str, object]:
@@ -83,7 +93,7 @@ def test_a_run_that_is_killed(endings: FrontEnd, victim: str) -> None:
         wait_until(lambda: not run.processes(), MOMENT)
     table = endings.output("list")
     assert " stopped " in table
-    assert endings_of(endings) == [".gz", ".json"]
+    assert endings_of(endings) == WHOLE
     counts = told(only_run(endings), "status", "passed", "failed", "unended")
     assert counts == ("incomplete", 2, 1, 1)
     shown = endings.output("show", "--all")
@@ -91,6 +101,18 @@ def test_a_run_that_is_killed(endings: FrontEnd, victim: str) -> None:
     assert "one is not two\n" in shown
     assert "UNFINISHED ways::ends hangs\n" in shown
     assert shown.endswith("; the recording stopped before the run ended\n")
+
+
+def test_a_run_in_shared_processes_that_is_killed(endings: FrontEnd) -> None:
+    """It is the same as in processes of their own."""
+    words = ("test", "--shared", *ENDS[1:], "passes", "hangs", "--test-threads=4")
+    with started(endings, *words) as run:
+        wait_until(lambda: is_at(endings, passed=2, failed=0, unended=1))
+        run.kill("first")
+        wait_until(lambda: not run.processes(), MOMENT)
+    counts = told(only_run(endings), "status", "passed", "failed", "unended")
+    assert counts == ("incomplete", 2, 0, 1)
+    assert "    fine\n" in endings.output("show", "passes")
 
 
 def test_the_xml_of_a_run_that_was_killed(endings: FrontEnd) -> None:
@@ -152,7 +174,7 @@ def test_a_run_within_a_time(endings: FrontEnd) -> None:
         2,
         2,
     )
-    assert endings_of(endings) == [".gz", ".json"]
+    assert endings_of(endings) == WHOLE
 
 
 def test_a_run_that_goes_on_is_left_alone(endings: FrontEnd) -> None:
@@ -195,7 +217,7 @@ def test_commands_that_look_at_once(endings: FrontEnd) -> None:
         out, err = one.communicate()
         assert err == b""
         assert [found["status"] for found in json.loads(out)] == ["incomplete"]
-    assert endings_of(endings) == [".gz", ".json"]
+    assert endings_of(endings) == WHOLE
 
 
 def test_a_killed_recorder(endings: FrontEnd) -> None:
@@ -217,14 +239,12 @@ def test_a_killed_recorder(endings: FrontEnd) -> None:
     assert told(only_run(endings), "status", "passed", "failed") == ("incomplete", 0, 0)
 
 
-def test_a_disk_that_is_full(endings: FrontEnd) -> None:
+def test_a_limit_on_the_length_of_files(endings: FrontEnd) -> None:
     """The failures are told, and what there was room for is kept."""
     limit = (8 << 10, resource.RLIM_INFINITY)
     done = endings.run(
         *ENDS,
-        "fails",
-        "exits",
-        "prints",
+        *("fails", "exits", "prints"),
         before=lambda: resource.setrlimit(resource.RLIMIT_FSIZE, limit),
     )
     assert done.returncode == 101
@@ -232,6 +252,32 @@ def test_a_disk_that_is_full(endings: FrontEnd) -> None:
     assert done.stderr.splitlines()[-1].startswith(
         "rezovamy-runs: the tests failed, and besides: rezovamy live was ended by SIGXFSZ: "
     )
+    assert only_run(endings)["status"] == "incomplete"
+
+
+def test_a_full_disk(endings: FrontEnd) -> None:
+    """It is the same on a file system with room for five pages."""
+    endings.runs.mkdir()
+    words = [
+        "unshare",
+        "-rm",
+        "sh",
+        "-c",
+        ON_A_SMALL_DISK,
+        "sh",
+        *endings.words(*ENDS, "fails", "e"),
+    ]
+    done = subprocess.run(
+        words, cwd=endings.folder, env=endings.environment, capture_output=True, text=True
+    )
+    if done.returncode == NO_SMALL_DISK:
+        pytest.skip("no small file system can be made here")
+    assert done.returncode == 101
+    assert "one is not two\n" in done.stderr
+    last = done.stderr.splitlines()[-1]
+    assert last.startswith("rezovamy-runs: the tests failed, and besides: rezovamy live: ")
+    assert last.endswith(" events are kept, and `rezovamy-runs list` records these")
+    endings.environment["REZOVAMY_RUNS"] += "-left"
     assert only_run(endings)["status"] == "incomplete"
 
 
@@ -251,7 +297,7 @@ def test_a_bundle_without_room(endings: FrontEnd) -> None:
     assert endings_of(endings) == [".json", ".live"]
     endings.environment["REZOVAMY"] = str(program)
     assert told(only_run(endings), "status", "failed", "exit-code") == ("completed", 1, 101)
-    assert endings_of(endings) == [".gz", ".json"]
+    assert endings_of(endings) == WHOLE
 
 
 def test_a_folder_that_cannot_be_written(endings: FrontEnd) -> None:

@@ -11,6 +11,7 @@ from collections.abc import Sequence
 from typing import TYPE_CHECKING, NoReturn, Protocol
 
 from rezovamy_runs.answers import PROGRAM, WRONG_WORDS, answer
+from rezovamy_runs.commands import misplaced_words
 from rezovamy_runs.faults.fault import Fault
 
 if TYPE_CHECKING:
@@ -91,10 +92,22 @@ def split_rest(arguments: list[str]) -> tuple[list[str], list[str]]:
     return arguments[:place], arguments[place + 1 :]
 
 
+def refuse(made: Parser, own: list[str], unknown: list[str], rest: list[str]) -> NoReturn:
+    """End with a fault of words that no option takes."""
+    if own[0] in COMMANDS and module_of(own[0]).TAKES_REST:
+        said = misplaced_words.hint(PROGRAM, own, unknown, rest)
+        if said:
+            raise Fault(said, WRONG_WORDS)
+    made.error(f"unrecognized arguments: {' '.join(unknown)}")
+
+
 def run(arguments: list[str]) -> int:
     """Do what the words ask for, and return the status."""
     own, rest = split_rest(arguments)
-    words = parser(own[:1] if own and own[0] in COMMANDS else COMMANDS).parse_args(own)
+    made = parser(own[:1] if own and own[0] in COMMANDS else COMMANDS)
+    words, unknown = made.parse_known_args(own)
+    if unknown:
+        refuse(made, own, unknown, rest)
     words.rest, words.command_line = rest, [PROGRAM, *arguments]
     if words.command is None:
         raise Fault(

@@ -227,6 +227,8 @@ class Run(Summary):
     pauses: tuple[Pause, ...] = ()
     # Why the run was cancelled, None where it wasn't.
     cancelled_for: str | None = None
+    # The tests that the run names and never started.
+    never_started: tuple[TestName, ...] = ()
 
 
 def run_of(
@@ -235,8 +237,14 @@ def run_of(
     scripts: tuple[Script, ...],
     pauses: tuple[Pause, ...],
     cancelled_for: str | None,
+    never_started: tuple[TestName, ...] = (),
 ) -> Run:
     """Return a run of its summary and of what happened in it."""
     return Run(
-        **vars(summary), tests=tests, scripts=scripts, pauses=pauses, cancelled_for=cancelled_for
+        **vars(summary),
+        tests=tests,
+        scripts=scripts,
+        pauses=pauses,
+        cancelled_for=cancelled_for,
+        never_started=never_started,
     )

@@ -9,6 +9,12 @@ extern "C" {
     fn raise(signal: i32) -> i32;
 }
 
+/// It comes first in the order of the names, and still runs when a test after it has ended.
+#[test]
+fn a_moment() {
+    std::thread::sleep(Duration::from_millis(300));
+}
+
 #[test]
 fn passes() {
     println!("fine");

@@ -103,6 +103,14 @@ class Blocks:
         return last.plain_begin + last.plain_length
 
     def read(self, at: int, size: int) -> bytes:
+        """Return so many bytes from a place on, less only at the end of all."""
+        parts = []
+        while part := self._part(at, size):
+            parts.append(part)
+            at, size = at + len(part), size - len(part)
+        return b"".join(parts)
+
+    def _part(self, at: int, size: int) -> bytes:
         """Return at most so many bytes from a place on, less at the end of a block."""
         place = at // BLOCK
         if size <= 0 or at < 0 or place >= len(self._blocks):

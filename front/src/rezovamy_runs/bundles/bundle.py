@@ -98,6 +98,7 @@ class Bundle:
             builder.scripts(load),
             tuple(builder.pauses),
             builder.cancelled_for,
+            builder.never_started(),
         )
 
     def _builder(self) -> RunBuilder:

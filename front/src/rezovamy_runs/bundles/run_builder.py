@@ -102,6 +102,7 @@ class RunBuilder:
         self._open_tests: dict[TestName, TestHistory] = {}
         self._open_scripts: dict[int, ScriptHistory] = {}
         self._unseen = 0
+        self._unseen_names: tuple[TestName, ...] = ()
 
     def take(self, event: Event) -> None:
         """Take the next event."""
@@ -142,7 +143,7 @@ class RunBuilder:
                 self.start = event
             case RunFinished():
                 self.elapsed = seconds(event.taken) or self.elapsed
-                self._unseen = event.unseen
+                self._unseen, self._unseen_names = event.unseen, event.unseen_names
             case RunCancelled():
                 self.cancelled_for = event.reason
             case RunPaused() if not is_paused:
@@ -165,6 +166,11 @@ class RunBuilder:
     def tests(self, load: Load) -> tuple[Test, ...]:
         """Return the tests, in the order in which they started or were skipped."""
         return tuple(test.test(load) for test in self._tests)
+
+    def never_started(self) -> tuple[TestName, ...]:
+        """Return the tests that the end of the run names and that never started."""
+        started = {test.name for test in self._tests}
+        return tuple(name for name in self._unseen_names if name not in started)
 
     def scripts(self, load: Load) -> tuple[Script, ...]:
         """Return the setup scripts, in the order in which they started."""

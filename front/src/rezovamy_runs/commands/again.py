@@ -16,7 +16,6 @@ from rezovamy_runs.commands import note_options, run_options
 from rezovamy_runs.commands import test as test_command
 from rezovamy_runs.faults.fault import Fault
 from rezovamy_runs.model import Summary
-from rezovamy_runs.runner import cargo_words
 from rezovamy_runs.runner import missing_tests
 from rezovamy_runs.runner import rerun_plan
 from rezovamy_runs.runner.process_run import ProcessRun
@@ -80,10 +79,6 @@ def run(words: argparse.Namespace) -> int:
 
     if options.shared:
         run_options.refuse_with_shared(words)
-        outputs.prepare()
-        commands = [cargo_words.cargo_words(call) for call in calls]
-        session = test_command.run_cargo(commands, before.profile, cli_args, plan)
-        return judge(outputs.keep(session), session.suites)
     of_run = run_options.options_of_run(words)
     process_run = ProcessRun(calls, of_run, before.profile, cli_args, plan)
     return test_command.guarded_status(

@@ -81,6 +81,7 @@ def options_of_run(words: argparse.Namespace) -> RunOptions:
         nanoseconds(SLOW_AFTER) if slow_after is None else slow_after,
         words.test_threads,
         bool(words.fail_fast),
+        words.shared,
         tuple(words.setup or ()),
     )
 

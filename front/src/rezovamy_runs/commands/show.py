@@ -66,6 +66,7 @@ def run(words: argparse.Namespace) -> int:
             printer.head(found, runs.shortest(found.id)),
             *printer.scripts(found.scripts, options.all),
             *printer.tests(found.tests, options.all),
+            *printer.never_started(found),
             printer.end(found),
         ]
     )

@@ -26,12 +26,10 @@ from rezovamy_runs.faults.fault import Fault
 from rezovamy_runs.page import document
 from rezovamy_runs.processes import guard
 from rezovamy_runs.report.run_text import Printer
-from rezovamy_runs.runner import cargo_words, run_facts
-from rezovamy_runs.runner.cargo_runs import PAUSE, CargoRuns
+from rezovamy_runs.runner import run_facts
 from rezovamy_runs.runner.line_stream import LineStream
 from rezovamy_runs.runner.process_run import ProcessRun, Recordable
 from rezovamy_runs.runner.progress import Progress
-from rezovamy_runs.runner.rerun_plan import Plan
 from rezovamy_runs.runner.session_builder import Session, SessionBuilder
 from rezovamy_runs.store import run_folder, whole_session
 from rezovamy_runs.store.notes import RunNotes
@@ -44,6 +42,8 @@ from rezovamy_runs.streams.texts import without_surrogates
 SUMMARY = "run `cargo test` with the words after --, and record the run"
 TAKES_REST = True
 MOST_LINES = 200
+# How often it is shown how far the lines are, while none comes.
+PAUSE = 0.2
 
 
 @dataclasses.dataclass(frozen=True)
@@ -125,10 +125,6 @@ def run(words: argparse.Namespace) -> int:
     if options.shared:
         run_options.refuse_with_shared(words)
         note_options.refuse_shard(words)
-        outputs = outputs_of(words, runs, False)
-        outputs.prepare()
-        commands = [cargo_words.cargo_words(options.rest)]
-        return outputs.keep(run_cargo(commands, options.profile, cli_args))
     cargo_call.read(options.rest)
     outputs = outputs_of(words, runs, True)
     of_run = dataclasses.replace(run_options.options_of_run(words), shard=outputs.notes.shard)
@@ -241,23 +237,6 @@ class Following:
             self.progress.refresh()
 
 
-def run_cargo(
-    commands: list[list[str]],
-    profile: str,
-    cli_args: list[str],
-    plan: Plan | None = None,
-) -> Session:
-    """Return the session of runs of cargo, one after the other; of a rerun with its plan."""
-    following = Following(arrival_clock())
-    progress, builder = following.progress, following.builder
-    lines = CargoRuns(commands, progress.refresh, builder.reader.end_cargo_run)
-    following.read(lines)
-    try:
-        return builder.session(lines.status(), lines.cancel_reason, profile, cli_args, plan)
-    finally:
-        progress.finish()
-
-
 def opened(source: str) -> BinaryIO:
     """Open the lines of a run that are there."""
     try:
@@ -299,6 +278,7 @@ def summary_of(runs: run_folder.Store, path: pathlib.Path) -> str:
     prefix = runs.prefixes().get(run.id, run.id)
     lines = [
         *printer.tests(run.tests, False),
+        *printer.never_started(run),
         *printer.slowest(run),
         printer.end(run),
         f"recorded as {prefix} in {path}",

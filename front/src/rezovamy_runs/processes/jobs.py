@@ -42,6 +42,25 @@ class Job:
 
 
 @dataclasses.dataclass(frozen=True)
+class Group:
+    """Tests that run in one process, as many of them at once as its words say.
+
+    The program, with the words `arguments` besides, prints the events of libtest as JSON. `jobs`
+    run those tests by themselves which a crash of the process leaves without a result; `others` are
+    tests that are told and don't run. `itself` is the job that stands for the process. With
+    `log_file`, the runner adds `--logfile FILE` before the arguments, and believes no result that
+    the file doesn't have.
+    """
+
+    program: Program
+    arguments: tuple[str, ...]
+    jobs: tuple[Job, ...]
+    itself: Job
+    others: frozenset[str] = frozenset()
+    log_file: bool = False
+
+
+@dataclasses.dataclass(frozen=True)
 class Script:
     """A setup script, which ends before the first test starts."""
 
@@ -165,8 +184,9 @@ class Slow:
 class Ending:
     """How a process ended, with what it printed.
 
-    If the process couldn't be started, `exit` is None, and `error` says why. `leaked` means that
-    another process held an output open for longer than the settings allow.
+    If the process couldn't be started, `exit` is None, and `error` says why. Else `error` is what
+    is said besides. `leaked` means that another process held an output open for longer than the
+    settings allow. `is_combined` means that `stdout` has both outputs.
     """
 
     verdict: Verdict
@@ -178,6 +198,7 @@ class Ending:
     leaked: bool = False
     is_slow: bool = False
     error: str = ""
+    is_combined: bool = False
 
 
 @dataclasses.dataclass(frozen=True)
@@ -220,6 +241,16 @@ class ScriptEnded:
     index: int
     total: int
     ending: Ending
+    at: int
+
+
+@dataclasses.dataclass(frozen=True)
+class Printed:
+    """A process of several tests has ended, and printed this outside of its tests."""
+
+    job: Job
+    stdout: Captured
+    stderr: Captured
     at: int
 
 
@@ -267,6 +298,7 @@ Event = (
     | ScriptStarted
     | ScriptSlow
     | ScriptEnded
+    | Printed
     | Paused
     | Continued
     | Cancelled

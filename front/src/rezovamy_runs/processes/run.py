@@ -17,6 +17,7 @@ from rezovamy_runs.processes.jobs import (
     Ending,
     Event,
     Finished,
+    Group,
     Job,
     Script,
     ScriptEnded,
@@ -28,6 +29,7 @@ from rezovamy_runs.processes.jobs import (
     Verdict,
 )
 from rezovamy_runs.processes.loop import Loop
+from rezovamy_runs.processes.shared import SharedRun
 from rezovamy_runs.processes.supervisor import CalledSlow, Notice, Over, Supervisor
 from rezovamy_runs.processes.tries import Try, not_started
 from rezovamy_runs.processes.verdicts import by_status, by_test
@@ -64,15 +66,17 @@ class Run:
         jobs: Iterable[Job],
         settings: Settings,
         scripts: Sequence[Script] = (),
+        groups: Sequence[Group] = (),
     ) -> None:
         self._loop, self._settings, self._scripts = loop, settings, scripts
+        self._groups = groups
         self._waiting = collections.deque(jobs)
         self._free_slots = list(range(min(settings.slots, most_slots())))
         self._supervisor = Supervisor(loop, settings)
         self._tries: dict[Attempt, tuple[Place, Try]] = {}
 
     def __iter__(self) -> Iterator[Event]:
-        """Run the setup scripts one after the other, then the tests, and yield what happens."""
+        """Run the setup scripts, the jobs, and the groups one after the other."""
         others = children()
         try:
             for index, script in enumerate(self._scripts):
@@ -83,6 +87,9 @@ class Run:
                 for notice in self._supervisor.turn():
                     yield from self._tell(notice)
                 yield from self._start_waiting()
+            for group in self._groups:
+                if not self._supervisor.cancelled:
+                    yield from SharedRun(self._loop, self._supervisor, self._settings, group)
         finally:
             killed = kill_descendants(others)
             self._supervisor.forget_all()

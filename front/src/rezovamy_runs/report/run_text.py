@@ -41,6 +41,8 @@ STREAMS = {
 }
 NOTEWORTHY = (Verdict.FAIL, Verdict.FLAKY, Verdict.UNFINISHED)
 SLOWEST = 5
+# How many tests are named at the end of a run of those that never started.
+MOST_NAMES = 20
 INDENT = "    "
 LONGEST_LINE = 2000
 
@@ -89,6 +91,15 @@ class Printer:
                 yield from self.outputs(attempt)
         if test.flaky_fails and test.verdict is Verdict.FAIL and test.attempts[-1].passed:
             yield f"{INDENT}it passed at last, and flaky tests fail in this run"
+
+    def never_started(self, run: Run) -> Iterator[str]:
+        """Return the tests of a run that never started, as far as it names them."""
+        names = run.never_started
+        shown = names[:MOST_NAMES] if self.most_lines else names
+        for key in shown:
+            yield f"{self.paint('yellow', 'NEVER STARTED')} {name_of(key)}"
+        if len(shown) < len(names):
+            yield f".. {len(names) - len(shown)} more never started, {SHOWN_BY} .."
 
     def scripts(self, scripts: Iterable[Script], with_passed: bool) -> Iterator[str]:
         """Return the setup scripts that failed, or all."""

@@ -68,9 +68,8 @@ class LiveRecorder:
             return self._folder.finish(line_of(head))
         except (Fault, OSError) as error:
             if not self._folder.has_events():
-                self._folder.remove()
-            said = error if isinstance(error, Fault) else f"{error.strerror or error}"
-            raise Fault(f"{said}{self._kept()}") from error
+                self._folder.discard()
+            raise Fault(f"{self._said(error)}{self._kept()}") from error
         finally:
             if self._lock:
                 self._lock.close()
@@ -82,6 +81,13 @@ class LiveRecorder:
         status, said = self._feed.finish()
         if status:
             raise Fault(recorder.sentence(["live"], status, said.decode("utf-8", "replace")))
+
+    def _said(self, error: Fault | OSError) -> str:
+        """Say what failed, and what to do."""
+        if isinstance(error, Fault):
+            return str(error)
+        do = "make room or give access, and run the tests again"
+        return f"{self._folder.path} can't be written: {error.strerror or error}; {do}"
 
     def _kept(self) -> str:
         """Say how much of a run is kept that couldn't be recorded or packed."""

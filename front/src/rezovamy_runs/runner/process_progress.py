@@ -13,6 +13,7 @@ from rezovamy_runs.processes.jobs import (
     Event,
     Finished,
     Paused,
+    Printed,
     ScriptEnded,
     Slow,
     Started,
@@ -57,6 +58,8 @@ class ProcessProgress:
                 name = formatting.name(f"{told.job.binary_id} {told.job.test_name}")
                 taken = formatting.duration(told.elapsed / SECOND)
                 self._line.print_lines([f"{self._line.paint('yellow', 'SLOW')} [{taken}] {name}"])
+            case Printed():
+                self._print_outputs(told)
             case Cancelled():
                 self._line.print_lines([f"no further test starts: {REASONS[told.reason]}"])
             case Paused():
@@ -76,10 +79,20 @@ class ProcessProgress:
         if told.next_attempt is None:
             self._ended += 1
             self._failed += not passed
+        if passed and told.ending.error:
+            name = formatting.name(f"{told.job.binary_id} {told.job.test_name}")
+            self._line.print_lines([f"{name}: {formatting.harmless(told.ending.error)}"])
         if not passed:
             attempt = attempt_of(told.ending, told.attempt, told.total_attempts)
             test = Test(told.job.binary_id, told.job.test_name, (attempt,))
             self._line.print_lines(self._printer.test(test, False))
+
+    def _print_outputs(self, told: Printed) -> None:
+        """Print what a process printed outside of its tests."""
+        name = formatting.name(told.job.binary_id)
+        printed = Attempt(1, 1, 0.0, stdout=shown(told.stdout), stderr=shown(told.stderr))
+        lines = self._printer.outputs(printed)
+        self._line.print_lines([f"{name} printed outside of its tests:", *lines])
 
     def _print_script(self, told: ScriptEnded) -> None:
         """Print a setup script that failed."""
@@ -107,7 +120,8 @@ def attempt_of(ending: Ending, number: int, total: int) -> Attempt:
         detail=detail,
         seconds=ending.elapsed / SECOND,
         is_slow=ending.is_slow,
-        stdout=shown(ending.stdout),
-        stderr=shown(ending.stderr),
+        stdout=None if ending.is_combined else shown(ending.stdout),
+        stderr=None if ending.is_combined else shown(ending.stderr),
+        combined=shown(ending.stdout) if ending.is_combined else None,
         errors="\n".join(errors) or None,
     )

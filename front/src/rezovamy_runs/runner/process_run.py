@@ -10,6 +10,7 @@ from collections.abc import Callable, Sequence
 
 from rezovamy_runs.collecting import cargo_call, sharding, test_words
 from rezovamy_runs.collecting.collect import Collector, Listed, jobs_of
+from rezovamy_runs.collecting.groups import groups_of
 from rezovamy_runs.collecting.records import own_environment
 from rezovamy_runs.faults.fault import Fault
 from rezovamy_runs.json_values import JsonObject
@@ -40,6 +41,7 @@ class RunOptions:
     slow_after: int | None = None
     test_threads: int | None = None
     fail_fast: bool = False
+    shared: bool = False
     scripts: tuple[tuple[str, str], ...] = ()
     # The shard whose tests alone run, None if all do.
     shard: Shard | None = None
@@ -125,7 +127,10 @@ class ProcessRun:
 
     def _run_listed(self, loop: Loop, store: Store, listed: Sequence[Listed]) -> Recordable:
         """Run the tests, show what happens, and record it."""
+        groups = groups_of(listed) if self._options.shared else []
         jobs, scripts = jobs_of(listed), self._options.setup_scripts()
+        in_groups = {id(job) for group in groups for job in group.jobs}
+        alone = [job for job in jobs if id(job) not in in_groups]
         skipped = [(one.binary.target.id, name) for one in listed for name in one.ignored]
         session = ProcessSession(self._name, jobs, skipped, len(scripts), loop.now())
         suites, progress = suites_of(listed), ProcessProgress(len(jobs))
@@ -133,9 +138,10 @@ class ProcessRun:
         settings = self._options.settings(self._calls[0])
         with LiveRecorder(loop, LiveFolder(store, self._name.run_id), head) as recording:
             recording.write(session.first_events())
-            for told in Run(loop, jobs, settings, scripts):
-                progress.show(told)
+            for told in Run(loop, alone, settings, scripts, groups):
+                # What was shown is recorded, unless it is lost within the next moment.
                 recording.write(session.events(told))
+                progress.show(told)
         return Recordable(session.status, suites, recording, {**head, **end_of(session)})
 
     def _head(self, session: ProcessSession, suites: Suites) -> JsonObject:

@@ -48,15 +48,15 @@ def result_of(ending: Ending) -> str | JsonObject:
 def errors_in(ending: Ending) -> list[str]:
     """Return what is said of an attempt that didn't pass."""
     if ending.verdict is Verdict.PASSED:
-        return []
-    found = errors_of(text_of(ending.stderr) + text_of(ending.stdout), None)
+        return [ending.error] if ending.error else []
+    found = errors_of(text_of(ending.stderr) + text_of(ending.stdout), ending.error or None)
     return [*said_of(ending), *found]
 
 
 def said_of(ending: Ending) -> list[str]:
     """Return what an ending means that the exit status alone doesn't say."""
     ended = ending.exit or Exit()
-    if ending.verdict is Verdict.NO_RESULT:
+    if ending.verdict is Verdict.NO_RESULT and not ending.error:
         return [f"the process exited with status {ended.status} before the test ended"]
     if ending.verdict is Verdict.CANCELLED:
         return ["the run was cancelled while this test ran"]
@@ -72,8 +72,11 @@ def output_of(ending: Ending) -> JsonObject:
     """Return what a process printed, or why it couldn't be started."""
     if ending.exit is None:
         return {"start-error": ending.error}
-    split = {"stdout": shown(ending.stdout).hex(), "stderr": shown(ending.stderr).hex()}
-    output: JsonObject = {"output": {"split": split}}
+    outputs: JsonObject = {"combined": shown(ending.stdout).hex()}
+    if not ending.is_combined:
+        split = {"stdout": shown(ending.stdout).hex(), "stderr": shown(ending.stderr).hex()}
+        outputs = {"split": split}
+    output: JsonObject = {"output": outputs}
     errors = errors_in(ending)
     if errors:
         output["errors"] = errors

@@ -12,6 +12,7 @@ import dataclasses
 import fcntl
 import os
 import pathlib
+import re
 import shutil
 import tempfile
 import time
@@ -28,6 +29,7 @@ if TYPE_CHECKING:
     from rezovamy_runs.store.run_folder import Store
 
 ENDING = ".live"
+RUN_ID = re.compile(r"[0-9a-f]{8}(?:-[0-9a-f]{4}){3}-[0-9a-f]{12}")
 RECORDING, LOCK, END, BUNDLE = "run", "lock", "end", "bundle"
 MANIFEST, LOG = bundle.MANIFEST.decode(), bundle.LOG.decode()
 # A folder without a recording has no writer any more; none takes that long to begin.
@@ -44,9 +46,10 @@ class LiveFolder:
 
     def begin(self) -> IO[bytes]:
         """Make the folder, and return its lock, which is held until it is closed everywhere."""
-        self.path.mkdir()
-        lock = open(self.path / LOCK, "wb")
-        fcntl.flock(lock, fcntl.LOCK_SH)
+        with self._store.writable():
+            self.path.mkdir()
+            lock = open(self.path / LOCK, "wb")
+            fcntl.flock(lock, fcntl.LOCK_SH)
         return lock
 
     def has_events(self) -> bool:
@@ -68,10 +71,13 @@ class LiveFolder:
 
         The bundle is there already if only the removal was stopped.
         """
-        if self.has_events() and not self._store.path_of(self.run_id).exists():
-            self._pack(self._end())
-        if self.recording.exists() or self._is_abandoned():
+        if self._store.path_of(self.run_id).exists():
             self.remove()
+        elif self.has_events():
+            self._pack(self._end())
+            self.remove()
+        elif self.recording.exists() or self._is_abandoned():
+            self.discard()
 
     def _end(self) -> bytes:
         """Return the head that the run ended with, nothing if it was stopped."""
@@ -100,6 +106,11 @@ class LiveFolder:
         for path in (self.recording, self.path):
             shutil.rmtree(path, ignore_errors=True)
 
+    def discard(self) -> None:
+        """Remove a run of which nothing is kept, with what is known of it besides."""
+        self.remove()
+        self._store.remove(self.run_id)
+
     def summary(self) -> Summary | None:
         """Return what there is of the run so far, None if it has just ended.
 
@@ -126,7 +137,8 @@ def settle_all(store: Store, say: Callable[[str], object]) -> list[LiveFolder]:
 
     What can't be packed stays, and is a line for `say`.
     """
-    found = [LiveFolder(store, run_id) for run_id in store.names(ENDING)]
+    paths = sorted(store.folder.glob(f"*{ENDING}"))
+    found = [LiveFolder(store, path.stem) for path in paths if RUN_ID.fullmatch(path.stem)]
     return [folder for folder in found if goes_on(folder, say)]
 
 

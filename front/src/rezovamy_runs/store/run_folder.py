@@ -7,7 +7,6 @@ import errno
 import functools
 import os
 import pathlib
-import re
 import shlex
 import time
 from collections.abc import Callable, Iterable, Iterator
@@ -18,14 +17,13 @@ from rezovamy_runs.command_line import say
 from rezovamy_runs.faults.fault import Fault
 from rezovamy_runs.model import Summary
 from rezovamy_runs.store import live_folder, location, notes, whole_file
-from rezovamy_runs.store.live_folder import LiveFolder, settle_all
+from rezovamy_runs.store.live_folder import RUN_ID, LiveFolder, settle_all
 from rezovamy_runs.store.notes import Part, RunNotes, WrongNotes
 
 ASIDE, PAGE = ".aside", ".html"
 JUNIT = "rezovamy-junit"
 # The words for the last whole run, and for the last one of all.
 LAST, LAST_ANY = "last", "last-any"
-RUN_ID = re.compile(r"[0-9a-f]{8}(?:-[0-9a-f]{4}){3}-[0-9a-f]{12}")
 # A file in the folder once the runs in the target directory were named.
 TOLD = ".runs-in-target-told"
 # A file that was written aside and has no writer any more; no recording takes that long.
