@@ -19,7 +19,7 @@ from tests.real_runs.cargo_runs import BUILT
 pytestmark = [pytest.mark.cargo, pytest.mark.program]
 
 BLOCK = re.compile(r"^```sh\n(.*?)^```", re.M | re.S)
-# The front end finds the program of the clone, and the folder of the runs below the target.
+# The front end finds the program of the clone, and the folder of the runs in that for states.
 LEFT_OUT = ("REZOVAMY", "REZOVAMY_RUNS")
 COUNTS = "8 tests in .*: 6 passed, 2 failed, 1 skipped"
 
@@ -83,7 +83,7 @@ def first_run(clone: Clone) -> str:
 
 
 def test_the_first_lines_record_a_run(first_run: str) -> None:
-    recorded = rf"^{COUNTS}\nrecorded as \w{{4}} in .*\.bundle\n\Z"
+    recorded = rf"^{COUNTS}\nrecorded as \w{{4}} in .*\.bundle\.gz\n\Z"
     assert re.search(recorded, first_run, re.M)
 
 
