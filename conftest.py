@@ -12,6 +12,7 @@ import os
 import pathlib
 import shutil
 import signal
+import tempfile
 from typing import NoReturn
 
 import pytest
@@ -43,11 +44,15 @@ def leave_out(missing: str) -> NoReturn:
     pytest.skip(f"{missing} is missing")
 
 
-def pytest_configure() -> None:
-    """Let a signal of the keyboard come, which a shell ignores for what it runs in the background.
+def pytest_configure(config: pytest.Config) -> None:
+    """Give the tests a state folder of their own, so that none records into the user's.
 
-    What a test starts would ignore it too.
+    Let a signal of the keyboard come, which a shell ignores for what it runs in the background:
+    what a test starts would ignore it too.
     """
+    state = tempfile.TemporaryDirectory(prefix="rezovamy-state-")
+    os.environ["XDG_STATE_HOME"] = state.name
+    config.add_cleanup(state.cleanup)
     if signal.getsignal(signal.SIGINT) == signal.SIG_IGN:
         signal.signal(signal.SIGINT, signal.default_int_handler)
 

@@ -72,9 +72,9 @@ def test_if_no_run_is_whole_the_last_one_is_taken(front_end: FrontEnd) -> None:
 def test_parts_are_marked_in_the_list(front_end: FrontEnd) -> None:
     head, *lines = front_end.output("list").splitlines()
     place = slice(head.index("part"), head.index("passed"))
-    assert [(line[:4], line[place].strip()) for line in lines] == [
+    assert [(line[:4].strip(), line[place].strip()) for line in lines] == [
         ("cccc", "again of aaaa"),
-        ("dddd", "shard 1/2"),
+        ("g", "1 of 2 shards"),
         ("bbbb", "filtered"),
         ("aaaa", ""),
         ("ffff", ""),

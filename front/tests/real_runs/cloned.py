@@ -13,7 +13,7 @@ from tests import EXAMPLES, FRONT, TOP
 from tests.real_runs.cargo_runs import BUILT
 
 BLOCK = re.compile(r"^```sh\n(.*?)^```", re.M | re.S)
-# The front end finds the program of the clone, and the folder of the runs below the target.
+# The front end finds the program of the clone, and the folder of the runs in that for states.
 LEFT_OUT = ("REZOVAMY", "REZOVAMY_RUNS")
 
 

@@ -35,7 +35,7 @@ def first_run(clone: Clone) -> str:
 
 
 def test_the_first_lines_record_a_run(first_run: str) -> None:
-    recorded = rf"^{COUNTS}\nrecorded as \w{{4}} in .*\.bundle\n\Z"
+    recorded = rf"^{COUNTS}\nrecorded as \w{{4}} in .*\.bundle\.gz\n\Z"
     assert re.search(recorded, first_run, re.M)
 
 

@@ -6,6 +6,7 @@ import argparse
 import contextlib
 import dataclasses
 import pathlib
+from collections.abc import Sequence
 
 from rezovamy_runs import recorder
 from rezovamy_runs.bundles import bundle
@@ -48,29 +49,28 @@ def run(words: argparse.Namespace) -> int:
     """Write the files, and print their paths."""
     options = options_of(Options, words)
     runs = run_folder.here()
-    path = runs.find(options.run)
-    return (
-        write(path, options.to, options.fail)
-        if options.to
-        else write_beside(path, runs, options.fail)
-    )
+    paths = runs.find_all(options.run)
+    if options.to:
+        return write(paths, options.to, options.fail)
+    return write_beside(paths, runs, options.fail)
 
 
-def write_beside(path: pathlib.Path, runs: run_folder.Store, fails: bool = False) -> int:
+def write_beside(paths: Sequence[pathlib.Path], runs: run_folder.Store, fails: bool = False) -> int:
     """Write the files to where they go if no folder is named, and return the status."""
     folder = beside(runs)
     with contextlib.suppress(OSError):
         runs.prepare_junit()
-    return write(path, folder, fails)
+    return write(paths, folder, fails)
 
 
-def write(path: pathlib.Path, folder: pathlib.Path, fails: bool = False) -> int:
-    """Write the files of a bundle's run, print their paths, and return the status."""
-    documents = bundle_documents(path)
+def write(bundles: Sequence[pathlib.Path], folder: pathlib.Path, fails: bool = False) -> int:
+    """Write the files of a run, or of a group's runs, print their paths, and return the status."""
+    documents = [document for path in bundles for document in bundle_documents(path)]
     try:
         junit_xml.remove_older(folder)
         if not documents:
-            raise Fault(f"no run has ended in {path}, so there is no report", junit_xml.NOTHING)
+            no_end = f"no run has ended in {bundles[0]}, so there is no report"
+            raise Fault(no_end, junit_xml.NOTHING)
         paths = junit_xml.write_documents(documents, folder)
     except OSError as error:
         with contextlib.suppress(OSError):

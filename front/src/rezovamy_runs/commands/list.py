@@ -4,13 +4,13 @@ from __future__ import annotations
 
 import argparse
 import dataclasses
-from collections.abc import Mapping
+from collections.abc import Mapping, Sequence
 
 from rezovamy_runs import formatting, instants
 from rezovamy_runs.command_line import matching, options_of, print_lines, print_out, say
 from rezovamy_runs.model import Status, Summary
 from rezovamy_runs.report import tables
-from rezovamy_runs.store import notes, run_folder
+from rezovamy_runs.store import groups, notes, run_folder
 from rezovamy_runs.store.live_folder import with_running
 from rezovamy_runs.store.notes import Part, RunNotes
 
@@ -31,10 +31,12 @@ class Options:
 
 @dataclasses.dataclass(frozen=True)
 class Listed:
-    """A run, and what it is known by; None without notes."""
+    """A run, or the runs of a group, and what is known of it; None without notes."""
 
     run: Summary
     notes: RunNotes | None
+    # Of a group, how many of its shards are there.
+    of_group: str | None = None
 
     @property
     def part(self) -> Part:
@@ -82,7 +84,7 @@ def run(words: argparse.Namespace) -> int:
     if options.json:
         print_out(tables.as_json([value_of(run, prefixes) for run in found]))
     elif found:
-        rows = [row_of(run, prefixes) for run in found]
+        rows = [row_of(run, prefixes) for run in with_groups(found)]
         print_lines(tables.table(list(rows[0]), [list(row.values()) for row in rows], NUMBERS))
     elif known:
         say(
@@ -93,8 +95,33 @@ def run(words: argparse.Namespace) -> int:
     return 0
 
 
+def with_groups(found: Sequence[Listed]) -> list[Listed]:
+    """Return the runs, those of one group as one where the latest of them is."""
+    members: dict[str, list[Listed]] = {}
+    for one in found:
+        members.setdefault(group_of(one), []).append(one)
+    return [as_one(group, runs) for group, runs in members.items()]
+
+
+def group_of(listed: Listed) -> str:
+    """Return the group of a run, or else its id, which no group has."""
+    return (listed.notes.group if listed.notes else None) or listed.run.id
+
+
+def as_one(group: str, runs: Sequence[Listed]) -> Listed:
+    """Return the runs of a group as one."""
+    if group == runs[0].run.id:
+        return runs[0]
+    shards = {one.notes.shard for one in runs if one.notes and one.notes.shard}
+    total = max((shard.total for shard in shards), default=0)
+    part = f"{len(shards)} of {formatting.count(total, 'shard')}" if shards else ""
+    return Listed(groups.one_summary(group, [one.run for one in runs]), runs[0].notes, part)
+
+
 def part_text(listed: Listed, prefixes: Mapping[str, str]) -> str:
     """Return in words how much of the tests a run has; nothing of a whole run."""
+    if listed.of_group is not None:
+        return listed.of_group
     parent, shard = listed.run.parent, listed.notes.shard if listed.notes else None
     if listed.part is Part.AGAIN and parent:
         return f"again of {prefixes.get(parent, parent)}"

@@ -11,12 +11,12 @@ import sys
 
 from rezovamy_runs import terminal
 from rezovamy_runs.bundles import bundle
-from rezovamy_runs.command_line import add_run, options_of, print_lines
+from rezovamy_runs.command_line import add_run, options_of, print_lines, say
 from rezovamy_runs.faults.fault import Fault
 from rezovamy_runs.formatting import moment
 from rezovamy_runs.model import Run, Test
 from rezovamy_runs.report.run_text import Printer
-from rezovamy_runs.store import run_folder
+from rezovamy_runs.store import groups, run_folder
 from rezovamy_runs.store.run_folder import LAST, Store
 
 SUMMARY = "show what failed in a run with its outputs, or one test"
@@ -52,8 +52,8 @@ def run(words: argparse.Namespace) -> int:
     """Print the run, or the tests that are named."""
     options = options_of(Options, words)
     runs = run_folder.here()
-    path, test = chosen(runs, options.run, options.test)
-    found = bundle.read_run(path)
+    paths, test = chosen(runs, options.run, options.test)
+    found = read(runs, paths, options.run)
     printer = Printer(terminal.Paint(terminal.colours(sys.stdout)))
     if test is not None:
         tests = named(found, test)
@@ -73,13 +73,28 @@ def run(words: argparse.Namespace) -> int:
     return 0
 
 
-def chosen(runs: Store, first: str | None, second: str | None) -> tuple[pathlib.Path, str | None]:
-    """Return the bundle and the test that the words name."""
+def chosen(
+    runs: Store, first: str | None, second: str | None
+) -> tuple[list[pathlib.Path], str | None]:
+    """Return the bundles, several of a group, and the test that the words name."""
     if first is None or second is not None:
-        return runs.find(first or LAST), second
+        return runs.find_all(first or LAST), second
     if runs.names_run(first):
-        return runs.find(first), None
-    return runs.find(LAST), first
+        return runs.find_all(first), None
+    return [runs.find(LAST)], first
+
+
+def read(runs: Store, paths: list[pathlib.Path], group: str | None) -> Run:
+    """Return the run of a bundle, or that of a group; say what of a group isn't as it should be."""
+    found = [bundle.read_run(path) for path in paths]
+    if group is None or not runs.is_somewhere() or not runs.of_group(group):
+        return found[0]
+    missing = groups.missing_shards(known.shard for known in map(runs.notes, paths) if known)
+    if missing:
+        say(f"rezovamy-runs: of {group} no run is there of shard {', '.join(map(str, missing))}")
+    for key in groups.ran_twice(found):
+        say(f"rezovamy-runs: several runs of {group} ran {key.binary} {key.test}")
+    return groups.one_run(group, found)
 
 
 def named(run: Run, word: str) -> list[Test]:

@@ -224,7 +224,7 @@ class Outputs:
             page = page_command.written(document.page_of(path), page_command.beside(path))
             print_out(f"{page}\n")
         if self.junit:
-            junit_command.write_beside(path, self.runs)
+            junit_command.write_beside([path], self.runs)
 
 
 class Following:

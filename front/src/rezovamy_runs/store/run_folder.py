@@ -127,8 +127,21 @@ class Store:
 
     def names_run(self, word: str) -> bool:
         """Tell whether `find` takes a word for the name of a run, be it one or more."""
+        if self.is_somewhere() and self.of_group(word):
+            return True
         is_path = is_bundle(word) or bundle_file.is_named_so(word)
         return word in (LAST, LAST_ANY) or is_path or bool(self.matching(word))
+
+    def of_group(self, name: str) -> list[pathlib.Path]:
+        """Return the bundles of the runs of a group, none if no run is in it."""
+        paths = map(self.path_of, self.ids())
+        known = ((path, self.notes(path)) for path in paths)
+        return [path for path, notes in known if notes and name and notes.group == name]
+
+    def find_all(self, word: str) -> list[pathlib.Path]:
+        """Return the bundles of the group that a word names, or else the one of the run."""
+        found = self.of_group(word) if self.is_somewhere() and not is_bundle(word) else []
+        return found or [self.find(word)]
 
     def matching(self, word: str) -> list[str]:
         """Return the ids that begin with a word, which may be in upper case."""
