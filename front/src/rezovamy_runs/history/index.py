@@ -16,7 +16,8 @@ from rezovamy_runs.history.database import Database
 from rezovamy_runs.history.rows import Recorded, key_of_run, key_of_test, outcomes_of
 from rezovamy_runs.processes.descendants import ask_for_signal_at_death_of_parent
 from rezovamy_runs.store import notes
-from rezovamy_runs.store.run_folder import RUN_ID, Store
+from rezovamy_runs.store.live_folder import RUN_ID
+from rezovamy_runs.store.run_folder import Store
 
 # With fewer new runs than this, it takes longer to start processes than to read.
 FEWEST_FOR_PROCESSES = 8
