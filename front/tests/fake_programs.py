@@ -10,8 +10,8 @@ import sys
 from tests import FRONT
 from tests.front_end import FrontEnd
 
-# It answers `rerun` with the text of a file, and `record` with the bundle of the session, which it
-# keeps.
+# It answers `rerun` with the text of a file. `record`, or `live` and `pack`, make the bundle of the
+# session, which it keeps.
 PROGRAM = f"""#!{sys.executable}
 import pathlib, sys
 sys.path[:0] = [{str(FRONT)!r}, {str(FRONT / 'src')!r}]
@@ -23,6 +23,15 @@ elif sys.argv[1] == "record":
     session = sys.stdin.read()
     (folder / "session").write_text(session)
     pathlib.Path(sys.argv[2]).write_bytes(made.bundle_of(session))
+elif sys.argv[1] == "live":
+    run = pathlib.Path(sys.argv[2])
+    run.mkdir()
+    (run / "run.log.zst").write_text(sys.stdin.read())
+elif sys.argv[1] == "pack":
+    lines = (pathlib.Path(sys.argv[2]) / "run.log.zst").read_text().splitlines(True)
+    session = "".join([sys.stdin.read() or lines[0], *lines[1:]])
+    (folder / "session").write_text(session)
+    pathlib.Path(sys.argv[3]).write_bytes(made.bundle_of(session))
 """
 # It keeps its words, and lets the runner that they name run the binary, which is beside it.
 CARGO = f"""#!{sys.executable}
