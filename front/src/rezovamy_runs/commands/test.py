@@ -126,7 +126,7 @@ def run(words: argparse.Namespace) -> int:
         run_options.refuse_with_shared(words)
         note_options.refuse_shard(words)
     cargo_call.read(options.rest)
-    outputs = outputs_of(words, runs, True)
+    outputs = outputs_of(words, runs, not options.shared)
     of_run = dataclasses.replace(run_options.options_of_run(words), shard=outputs.notes.shard)
     process_run = ProcessRun([options.rest], of_run, options.profile, cli_args)
     return guarded_status(lambda: outputs.run(process_run))
