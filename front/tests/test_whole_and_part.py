@@ -12,6 +12,7 @@ import pytest
 from rezovamy_runs import instants
 from rezovamy_runs.store import notes
 from rezovamy_runs.store.notes import Part, RunNotes, Shard
+from rezovamy_runs.store.run_folder import Store
 from tests import made
 from tests.front_end import FrontEnd, front_end_in
 
@@ -149,3 +150,14 @@ def test_what_is_no_time(word: str) -> None:
 def test_what_is_no_size(word: str) -> None:
     with pytest.raises(argparse.ArgumentTypeError, match="write it as"):
         instants.size(word)
+
+
+def test_again_goes_on_from_the_last_rerun_of_the_last_whole_run(front_end: FrontEnd) -> None:
+    runs = Store(front_end.runs)
+    assert runs.last_in_row() == runs.path_of(AGAIN)
+    rerun = made.bundle(made.run_started(5000), at=5000, run_id=NEWER, parent_run_id=AGAIN)
+    front_end.add_bundle(NEWER, rerun)
+    assert runs.last_in_row() == runs.path_of(NEWER)
+    for run_id in (NEWER, AGAIN):
+        front_end.path_of(run_id).unlink()
+    assert runs.last_in_row() == runs.path_of(WHOLE)
