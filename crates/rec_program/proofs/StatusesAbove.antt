@@ -110,7 +110,7 @@ reading_above (Line e) = export_above (line_fault e)
 reading_above (Conversion e) = conversion_above e
 reading_above (Report e) = junit_above e
 reading_above (Slots e) = slots_above e
-reading_above (OutputChanged file_name) = omega arith
+reading_above (OutputChanged file_name) = lit< tt
 reading_above OutOfMemory = lit< tt
 
 pub live_above : (e : LiveError) → 2 < live_status e
