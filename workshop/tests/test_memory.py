@@ -23,7 +23,7 @@ SHAPES = {
 # What the program holds of any input, and a little more, in bytes.
 OWN = 4 << 20
 # How many times its input a command may hold, if that isn't three times.
-MOST = {"view": 3.3}
+MOST = {"view": 3.5}
 # The last one writes the bundle that the readers read.
 WRITERS = ("record bundle --message-format json-pretty", "record bundle")
 # `slots` alone holds more where all tests are open at once, so no such session is tried with it.
