@@ -47,14 +47,16 @@ def leave_out(missing: str) -> NoReturn:
 def pytest_configure(config: pytest.Config) -> None:
     """Give the tests a state folder of their own, so that none records into the user's.
 
-    Let a signal of the keyboard come, which a shell ignores for what it runs in the background:
-    what a test starts would ignore it too.
+    Let a signal of the keyboard or of a terminal that goes come, which a shell ignores for what it
+    runs in the background, and `nohup` for all: what a test starts would ignore it too.
     """
     state = tempfile.TemporaryDirectory(prefix="rezovamy-state-")
     os.environ["XDG_STATE_HOME"] = state.name
     config.add_cleanup(state.cleanup)
     if signal.getsignal(signal.SIGINT) == signal.SIG_IGN:
         signal.signal(signal.SIGINT, signal.default_int_handler)
+    if signal.getsignal(signal.SIGHUP) == signal.SIG_IGN:
+        signal.signal(signal.SIGHUP, signal.SIG_DFL)
 
 
 def pytest_runtest_setup(item: pytest.Item) -> None:
