@@ -72,8 +72,8 @@ def test_an_event_that_is_refused(store: Store) -> None:
         ),
         (
             "/bin/false",
-            "rezovamy live ended with status 1 and said nothing: try it again, or build the "
-            "program anew",
+            "rezovamy live ended with status 1 and said nothing: try it again, or install "
+            "the program again",
         ),
     ],
 )

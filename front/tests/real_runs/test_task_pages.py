@@ -19,9 +19,10 @@ PAGES = {
     "find-flaky-tests.md": (
         0,
         [
-            r"^failed +tried again +passed .*$",
+            r"^ +failed +flaky +passed +runs +test$",
             r"^ +2 +0 +2 +4 +ends::flaky passes_at_the_second_run$",
-            r"^1 test passed each time, over 4 runs$",
+            r"^1 test failed over 4 runs; the last one ran 2 tests$",
+            r"^  F\.F\.$",
             r"^2 tests in .*: 2 passed \(1 flaky\)$",
             r"^FAIL .* ends::flaky passes_at_the_second_run .*attempt 1 of 2",
             r"^PASS .* ends::flaky passes_at_the_second_run .*attempt 2 of 2",
