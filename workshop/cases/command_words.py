@@ -38,6 +38,8 @@ COMMANDS: list[tuple[list[str], int, str, bool, bool]] = [
     (["report"], 12, "ReadArchive fault=BadMagic", False, False),
     (["slots", "b"], 2, "UnknownOption at=1", False, False),
     (["slots"], 12, "ReadArchive fault=BadMagic", False, False),
+    (["view", "b"], 2, "UnknownOption at=1", False, False),
+    (["view"], 12, "ReadArchive fault=BadMagic", False, False),
     (["rerun", "b"], 2, "UnknownOption at=1", False, False),
     (["rerun"], 12, "ReadArchive fault=BadMagic", False, False),
     (["slots", "--session-limit", "9"], 4, "SpoolTooLarge limit=9", False, False),
@@ -126,6 +128,10 @@ REFUSED = [
     ("info --output load", "UnknownOption at=1"),
     ("record b --output load", "UnknownOption at=2"),
     ("slots --output load", "UnknownOption at=1"),
+    ("view --group-by slot", "UnknownOption at=1"),
+    ("view --max-output 1", "UnknownOption at=1"),
+    ("view --output all", "BadValue at=2"),
+    ("view --output skip --output skip", "RepeatedOption at=3"),
     ("slots --group-by slot", "UnknownOption at=1"),
     ("slots --message-format json", "UnknownOption at=1"),
     ("slots --max-output 1", "UnknownOption at=1"),
@@ -219,6 +225,7 @@ Usage: rezovamy record BUNDLE [OPTION VALUE]..
        rezovamy info [OPTION VALUE]..
        rezovamy slots [OPTION VALUE]..
        rezovamy rerun [OPTION VALUE]..
+       rezovamy view [OPTION VALUE]..
        rezovamy sample N BUNDLE [OPTION VALUE]..
        rezovamy upgrade BUNDLE [OPTION VALUE]..
        rezovamy salvage BUNDLE [OPTION VALUE]..
@@ -229,13 +236,15 @@ record reads the session of a test run from standard input, and writes it into
 the file BUNDLE, a portable recording. Its trace, a timeline for trace viewers,
 goes to standard output.
 
-The next six read such a bundle from standard input. trace prints the trace of
+The next seven read such a bundle from standard input. trace prints the trace of
 its log, replay the events, a line for each, and report what came of the tests,
 a line of JSON for each run. info prints the manifest. slots prints how long a
 run took and how long each of its slots was busy, paused and idle, all in
 nanoseconds. rerun prints which tests are to run again after a run: a line of
 JSON, and then a line for each test of its list that runs again, that is
-skipped, or that is to run again but is no longer listed.
+skipped, or that is to run again but is no longer listed. view prints one line
+of JSON with each test, what became of it, and its attempts with their times;
+then the outputs, of each a line with its path and its length, and its bytes.
 
 sample makes a session of N tests, at most 10000, and writes it into the file
 BUNDLE as record does. It prints how many events and outputs were written.
@@ -264,8 +273,8 @@ Options, each at most once, with a value after it; limits are in bytes:
   --read-limit      of all but live and pack: the most of the manifest, of the
                     log and of an entry of the store (268435456)
   --session-limit   the most of standard input that is read (268435456)
-  --output          of replay alone: load reads the outputs of tests, and skip
-                    leaves them out (load)
+  --output          of replay and view: load reads the outputs of tests, and
+                    skip leaves them out (load)
 
 Other words, each of them alone:
   --help     prints this text
