@@ -92,12 +92,13 @@ def started(front_end: FrontEnd, *words: str) -> Iterator[StartedRun]:
         process_group=0,
     )
     run = StartedRun(process, mark)
-    try:
-        with process:
+    with process:
+        try:
             yield run
+        finally:
+            # Before its end is waited for, also after a failed test.
             run.kill_all()
-    finally:
-        run.kill_all()
+    run.kill_all()
 
 
 def listed(front_end: FrontEnd) -> list[dict[str, object]]:
