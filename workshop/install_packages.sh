@@ -19,6 +19,7 @@ need_module black black
 need_module flake8 flake8
 need_module mypy mypy
 need_module pytest python3-pytest
+need_module yaml python3-yaml
 need_module psycopg python3-psycopg
 need_command chromium chromium
 need_command firefox-esr firefox-esr

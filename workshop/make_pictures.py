@@ -2,26 +2,47 @@
 
     python3 -m workshop.make_pictures
 
-It writes `docs/screenshot.png`, a failing test, and `docs/causes.png`, the overview of the run with
-its failures by their causes. It needs Chromium.
+It writes `docs/screenshot.png`, a failing test, `docs/causes.png`, the overview of the run with its
+failures by their causes, and `docs/history.png`, the page of many such runs. It needs Chromium.
 """
 
 from __future__ import annotations
 
 import base64
+import contextlib
 import dataclasses
 import pathlib
+import random
 import sys
 import tempfile
 
 from rezovamy_runs.command_line import command_line
+from rezovamy_runs.history import index, queries, schema
+from rezovamy_runs.history.database import SqliteDatabase
+from rezovamy_runs.history.joining import joined_runs
+from rezovamy_runs.history.outcomes import Outcome
+from rezovamy_runs.history.rows import Recorded, key_of_run
 from rezovamy_runs.json_values import JsonObject
+from rezovamy_runs.model import TestName, Verdict
+from rezovamy_runs.page_of_runs import document as page_of_runs
 from rezovamy_runs.store import notes as run_notes
 from rezovamy_runs.store.notes import CiJob, RunNotes
 from tests import browser
 from tests.browser import NEXT_FRAME
-from tests.made import event, exit_code, failed, finished, retried, session_of, started, status
-from tests.opened_page import Page
+from tests.histories import row
+from tests.made import (
+    continued,
+    exit_code,
+    failed,
+    finished,
+    paused,
+    retried,
+    run_started,
+    session_of,
+    started,
+    status,
+)
+from tests.opened_page import READY, Page
 from tests.page_sessions import with_binary
 
 from workshop import TOP
@@ -125,15 +146,52 @@ def events_of(test: Planned) -> list[tuple[float, JsonObject]]:
 def session() -> str:
     """Return the session of the run."""
     timed = [one for test in planned() for one in events_of(test)]
-    timed.append((PAUSE_AT, event("run-paused", PAUSE_AT)))
-    timed.append((PAUSE_AT + PAUSE, event("run-continued", PAUSE_AT + PAUSE)))
-    begun = event("run-started", 0, profile_name="default", cli_args=["cargo", "test"])
-    return session_of([begun, *(one for _, one in sorted(timed, key=lambda pair: pair[0]))])
+    timed.append((PAUSE_AT, paused(PAUSE_AT)))
+    timed.append((PAUSE_AT + PAUSE, continued(PAUSE_AT + PAUSE)))
+    return session_of([run_started(), *(one for _, one in sorted(timed, key=lambda pair: pair[0]))])
 
 
 def take(page: Page, fragment: str, picture: pathlib.Path) -> None:
     """Take a picture of a page at a fragment of its address."""
     page.open(session(), WIDE, HIGH, fragment=fragment)
+    shoot(page, picture)
+
+
+def recorded(number: int) -> Recorded:
+    """Return one of many runs: now and then a test of the radio fails, the lamp at one commit."""
+    chance = random.Random(number)
+    found: dict[TestName, Outcome] = {}
+    for test in planned():
+        seconds = test.took * chance.uniform(0.8, 1.2) * (1.6 if number > 40 else 1)
+        is_bad = test.name in SILENT and chance.random() < 0.1 or test.name == LAMP and number > 50
+        is_bad = is_bad or bool(errors_of(test.name)) and test.name not in SILENT and number > 55
+        verdict = Verdict.FAIL if is_bad else Verdict.PASS
+        said = "no answer from the port" if is_bad else None
+        found[TestName(test.binary, test.name)] = Outcome(verdict, seconds, 1, said)
+    run_id, commit = f"{number:08x}-0000-4000-8000-000000000000", random.Random(number // 2)
+    known = {"commit_id": f"{commit.getrandbits(64):016x}", "branch": "berths"}
+    begin = 1_700_000_000.0 + 7200 * number
+    values = {"id": run_id, "run": key_of_run(run_id), "started": begin, **known}
+    return Recorded(dataclasses.replace(row(number), **values), found)
+
+
+def take_history(page: Page, picture: pathlib.Path) -> None:
+    """Take a picture of the page of many runs, at a test that fails in the newest ones."""
+    with contextlib.closing(SqliteDatabase(None)) as database:
+        schema.prepare(database)
+        for number in range(60):
+            index.add(database, recorded(number))
+        runs = joined_runs(queries.run_rows(database))
+        text = page_of_runs.page_html(page_of_runs.value_of(database, runs, "harbor", None))
+    path = page.folder / "history.html"
+    path.write_text(text)
+    page.browser.open(path.as_uri() + f"#harbor%3A%3Alight/{LAMP}/{runs[-1].id}", WIDE, HIGH)
+    page.browser.wait_until(READY)
+    shoot(page, picture)
+
+
+def shoot(page: Page, picture: pathlib.Path) -> None:
+    """Write what a page shows as a picture."""
     page.evaluate(NEXT_FRAME)
     shot = page.browser.ask("Page.captureScreenshot")["data"]
     picture.write_bytes(base64.b64decode(str(shot)))
@@ -151,6 +209,7 @@ def main() -> int:
         run_notes.write(NOTES, run_notes.path_beside(page.folder / "run.bundle"))
         take(page, SHOWN, TOP / "docs/screenshot.png")
         take(page, "", TOP / "docs/causes.png")
+        take_history(page, TOP / "docs/history.png")
     return 0
 
 

@@ -31,9 +31,9 @@ from collections.abc import Iterator, Mapping, Sequence
 from pathlib import Path
 from typing import NamedTuple, TextIO
 
-from rezovamy_runs.bundles.container import entries
 from rezovamy_runs.command_line import command_line, demand_program, whole
 from workshop import TOP
+from workshop.oracle.container import entries
 from workshop.tracing import Call, run_refusing
 
 OLD = b"an older file"

@@ -22,9 +22,9 @@ from collections.abc import Sequence
 from pathlib import Path
 from typing import TypedDict
 
-from rezovamy_runs.bundles.container import entries
 from rezovamy_runs.command_line import command_line, demand_program
 from workshop import PROGRAM, TOP
+from workshop.oracle.container import entries
 
 OUTPUT_KINDS = ("setup-script-finished", "test-attempt-failed-will-retry", "test-finished")
 SLOT_KINDS = ("busy", "paused", "idle")

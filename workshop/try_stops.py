@@ -33,7 +33,6 @@ from collections.abc import Iterator, Sequence
 from pathlib import Path
 from typing import Protocol, TypeAlias
 
-from rezovamy_runs.bundles.container import container, entries
 from rezovamy_runs.command_line import (
     command_line,
     demand_program,
@@ -43,6 +42,7 @@ from rezovamy_runs.command_line import (
     whole,
 )
 from workshop import TOP
+from workshop.oracle.container import container, entries
 
 PROGRAM = TOP / "crates/rezovamy/out/rezovamy"
 LOG, STORE = "run.log.zst", "store.zip"

@@ -6,7 +6,7 @@ import dataclasses
 from collections.abc import Callable
 from typing import TypeAlias
 
-from rezovamy_runs.bundles.container import entries
+from workshop.oracle.container import entries
 
 # The words after the program's name, and a name in a container with its content.
 Words: TypeAlias = tuple[str, ...]

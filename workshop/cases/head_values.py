@@ -4,12 +4,12 @@ from __future__ import annotations
 
 from collections.abc import Iterator
 
-from rezovamy_runs.bundles.container import entries
 from workshop.cases.case import SOME, Case, Holds, entry_is, has
 from workshop.cases.line_cases import REFUSED, Rows
 from workshop.cases.made import ONE_TEST, bundle, session, store
 from workshop.cases.manifest_values import STATUSES
 from workshop.cases.texts import BUILD_SCOPE, COUNTED_MANIFEST, HEAD, HEADER
+from workshop.oracle.container import entries
 
 # The head as a text, and the parts of a build scope with their defaults.
 HEAD_TEXT, SCOPE = HEAD.decode(), BUILD_SCOPE.decode()

@@ -15,7 +15,6 @@ workshop.check_pages` looks whether they are there.
 
 from __future__ import annotations
 
-from rezovamy_runs.bundles.container import container
 from workshop.cases.case import SOME, Case
 from workshop.cases.histories import end, go_on, pause, run, run_end, start
 from workshop.cases.made import ONE_TEST, bundle, log_of, store
@@ -36,6 +35,7 @@ from workshop.cases.texts import (
     session_of,
 )
 from workshop.cases.trace_slices import RUN, marks, of_test
+from workshop.oracle.container import container
 
 RECORD, INFO = ("record", "b"), ("info",)
 

@@ -6,9 +6,9 @@ import json
 from collections.abc import Iterable, Mapping
 from typing import TypeAlias
 
-from rezovamy_runs.bundles.container import container
 from workshop.cases.case import Entry
 from workshop.cases.texts import COUNTED_MANIFEST, HEAD, MANIFEST, RUN_ID
+from workshop.oracle.container import container
 
 # The members of a JSON object by their names.
 Members: TypeAlias = Mapping[str, object]

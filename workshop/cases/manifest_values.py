@@ -4,10 +4,10 @@ from __future__ import annotations
 
 from collections.abc import Iterator
 
-from rezovamy_runs.bundles.container import container
 from workshop.cases.case import Case
 from workshop.cases.line_cases import REFUSED, RUN_IDS, TEXTS, Rows
 from workshop.cases.texts import COUNTED_MANIFEST, OLDER_STORE
+from workshop.oracle.container import container
 
 MANIFEST_TEXT = COUNTED_MANIFEST.decode()
 

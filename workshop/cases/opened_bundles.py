@@ -5,7 +5,6 @@ from __future__ import annotations
 from collections.abc import Iterator
 from typing import NamedTuple
 
-from rezovamy_runs.bundles.container import container
 from workshop.cases.case import SOME, Case, Recorded, Wanted
 from workshop.cases.made import bundle, held, log_of
 from workshop.cases.texts import (
@@ -23,6 +22,7 @@ from workshop.cases.texts import (
     SMALL_TRACE_BY_SLOT,
     replaced,
 )
+from workshop.oracle.container import container
 
 COMMANDS = ("info", "trace")
 MANIFEST_LINE = MANIFEST + b"\n"

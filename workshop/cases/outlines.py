@@ -9,10 +9,10 @@ import re
 from collections.abc import Sequence
 from typing import Any, TypeAlias
 
-from rezovamy_runs.bundles.container import MAGIC
 from workshop.cases.case import Beside, Case, Holds, Wanted, Words, begins
 from workshop.cases.histories import Line, traced_bundle, traced_session
 from workshop.cases.made import text
+from workshop.oracle.container import MAGIC
 
 TRACE = re.compile(rb'\{"displayTimeUnit":"ms","otherData":(\{.*?\}),"traceEvents":\[(.*)\]\}')
 # A trace event, by its members.

@@ -6,7 +6,6 @@ from __future__ import annotations
 
 from collections.abc import Sequence
 
-from rezovamy_runs.bundles.container import container, entries
 from workshop.cases.case import (
     ANY,
     SOME,
@@ -62,6 +61,7 @@ from workshop.cases.texts import (
     session_of,
 )
 from workshop.cases.whole_bundles import whole
+from workshop.oracle.container import container, entries
 
 # The bundles of a head alone and of a run with one test, whose manifest has these sizes.
 SIZES = (

@@ -7,7 +7,6 @@ from __future__ import annotations
 import hashlib
 from typing import NamedTuple
 
-from rezovamy_runs.bundles.container import container
 from workshop.cases.case import Case, Entry, Recorded, Wanted, Words
 from workshop.cases.events import script_ended, script_members
 from workshop.cases.made import Members, bundle, log as log_with
@@ -25,6 +24,7 @@ from workshop.cases.whole_bundles import (
     whole,
     wrote,
 )
+from workshop.oracle.container import container
 
 STORE = container(METADATA)
 WHOLE_STORE = container([*METADATA, *OUTPUTS])

@@ -6,11 +6,11 @@ import hashlib
 import re
 from collections.abc import Iterator, Sequence
 
-from rezovamy_runs.bundles.container import container
 from workshop.cases.case import SOME, Case, Entry, Holds, Recorded, Sampled, begins, both, ends
 from workshop.cases.events import sorted_stats
 from workshop.cases.made import OPTIONS, bundle, compact
 from workshop.cases.texts import BUILD_SCOPE, LOGGED_RUN_START, MANIFEST, NO_SIZES, replaced
+from workshop.oracle.container import container
 
 # The head up to the suites of its test list.
 SAMPLE_HEAD = (

@@ -4,7 +4,6 @@ from __future__ import annotations
 
 from typing import NamedTuple
 
-from rezovamy_runs.bundles.container import container
 from workshop.cases.case import SOME, Case, Entry
 from workshop.cases.made import (
     BENCHMARK,
@@ -28,6 +27,7 @@ from workshop.cases.replay_and_report import (
     stored,
 )
 from workshop.cases.texts import HEAD, HEADER, MANIFEST_3_0, RUN_STARTED, TEST_STARTED, replaced
+from workshop.oracle.container import container
 
 # Parts that are missing or faulty. The log isn't UTF-8, or has two blank lines before a line that
 # is no event.

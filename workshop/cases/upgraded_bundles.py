@@ -5,7 +5,6 @@ from __future__ import annotations
 from collections.abc import Iterator, Sequence
 from typing import NamedTuple
 
-from rezovamy_runs.bundles.container import container
 from workshop.cases.case import Case, Entry, Recorded, Wanted, Words
 from workshop.cases.made import bundle, held, log_of
 from workshop.cases.recorded_bundles import (
@@ -43,6 +42,7 @@ from workshop.cases.whole_bundles import (
     older,
     whole,
 )
+from workshop.oracle.container import container
 
 STORE = container(METADATA)
 MANIFEST_OF_PAUSE = manifest_of(LOGGED_PAUSE, STORE)

@@ -5,7 +5,6 @@ from __future__ import annotations
 
 from collections.abc import Iterable
 
-from rezovamy_runs.bundles.container import container, entries
 from workshop.cases.case import Entry
 from workshop.cases.events import attempt_failed, course, standard_output, status, test_finished
 from workshop.cases.histories import (
@@ -19,6 +18,7 @@ from workshop.cases.histories import (
 )
 from workshop.cases.made import Members, bundle, compact, duration, instant
 from workshop.cases.texts import LOGGED_PAUSE, MANIFEST, METADATA, NO_SIZES, replaced
+from workshop.oracle.container import container, entries
 
 # The versions of the formats, as a manifest has them.
 FORMAT_1_0, FORMAT_1_1 = (

@@ -9,7 +9,6 @@ from pathlib import Path
 
 import pytest
 
-from rezovamy_runs.bundles.container import container, entries
 from workshop.cases.texts import (
     HEAD,
     LOGGED_PAUSE,
@@ -17,6 +16,7 @@ from workshop.cases.texts import (
     RUN_PAUSED,
     SMALL_SESSION,
 )
+from workshop.oracle.container import container, entries
 
 pytestmark = pytest.mark.program
 

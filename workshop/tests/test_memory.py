@@ -17,16 +17,16 @@ MAKE_SESSION = [sys.executable, "-m", "workshop.make_session"]
 SHAPES = {
     "in four binaries": ["8000"],
     "each in a binary of its own": ["8000", "--binaries", "8000"],
+    "all open at once": ["8000", "--slots", "8000"],
     "outputs of their own": ["4000", "--distinct", "1000"],
     "outputs of 1 MiB": ["12", "--distinct", "1048576"],
 }
 # What the program holds of any input, and a little more, in bytes.
 OWN = 4 << 20
 # How many times its input a command may hold, if that isn't three times.
-MOST = {"view": 3.5}
+MOST = {"slots": 2.5, "view": 2.5, "view --output load": 2.5}
 # The last one writes the bundle that the readers read.
 WRITERS = ("record bundle --message-format json-pretty", "record bundle")
-# `slots` alone holds more where all tests are open at once, so no such session is tried with it.
 READERS = (
     "info",
     "trace",
@@ -36,6 +36,7 @@ READERS = (
     "slots",
     "rerun",
     "view",
+    "view --output load",
     "upgrade written",
     "salvage written",
 )

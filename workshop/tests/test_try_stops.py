@@ -7,8 +7,8 @@ from collections.abc import Iterable, Sequence
 
 import pytest
 
-from rezovamy_runs.bundles.container import container
 from workshop import TOP, try_stops
+from workshop.oracle.container import container
 from workshop.try_stops import FULL, KILLED_AT_LENGTH, WAYS, Left, Lost, Session, Stop
 
 HEAD = b'{"run-id":"x","test-list":{}}'

@@ -10,7 +10,6 @@ from typing import Any
 
 import pytest
 
-from rezovamy_runs.bundles.container import container, entries
 from workshop.cases.histories import (
     Line,
     cancel,
@@ -27,8 +26,10 @@ from workshop.cases.histories import (
     slow,
     start,
     traced_bundle,
+    traced_log,
 )
 from workshop.cases.texts import SMALL_SESSION
+from workshop.oracle.container import container, entries
 
 pytestmark = pytest.mark.program
 
@@ -189,6 +190,11 @@ def test_what_is_shown_of_a_history(program: Path, shown: Shown) -> None:
     }
 
 
+def seconds(made: Any, member: str) -> list[int]:
+    """Return the seconds of the events that a member of a view lists."""
+    return [event["timestamp"]["secs"] for event in made[member]]
+
+
 def test_what_is_shown_of_scripts_and_marks(program: Path) -> None:
     events = [
         run(1000),
@@ -203,9 +209,25 @@ def test_what_is_shown_of_scripts_and_marks(program: Path) -> None:
     made = viewed(program, events)
     (one,) = made["scripts"]
     assert (one["script-id"], one["index"], one["active"]) == ("db1", 0, 2 * SECOND)
-    assert [event["timestamp"]["secs"] for event in made["slow"]] == [1005]
-    assert [event["timestamp"]["secs"] for event in made["cancelled"]] == [1006]
+    assert seconds(made, "slow") == [1005]
+    assert seconds(made, "cancelled") == [1006]
     assert (made["begin"]["secs"], made["end"]["secs"]) == (1000, 1008)
+
+
+def test_starts_and_ends_are_as_the_log_has_them(program: Path) -> None:
+    events = [
+        run(1000),
+        run(1001),
+        run_end(1002),
+        cancel(1003, 0),
+        run_end(1004),
+        script(1005, 0, 1),
+    ]
+    made = viewed(program, events)
+    logged = [json.loads(line) for line in traced_log(events).splitlines()]
+    assert made["run-started"] == logged[:2]
+    assert made["run-finished"] == [logged[2], logged[4]]
+    assert made["setup-script-started"] == [logged[5]]
 
 
 # ---- outputs

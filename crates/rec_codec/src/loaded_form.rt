@@ -108,7 +108,7 @@ pub fn each_from_node<T: LoadedForm + Drop>(
     let Some(nodes) = node.as_array() else {
         return Err(FromValueError::NotAValue);
     };
-    let mut items = Vec::new(alloc);
+    let mut items = Vec::with_capacity(alloc, nodes.len())?;
     for node in nodes {
         let item = T::from_node(alloc, node)?;
         items.push(item)?;

@@ -15,8 +15,11 @@ use Rattle.rec_directory.specs.Files.{IsWhole}
 use Rattle.rec_directory.specs.Paths.{path_of_log, path_of_store}
 use Rattle.rec_portable_writer.specs.Names.{temporary_path}
 use Rattle.rec_portable_writer.specs.Replacing.{IsBegun, Replaces}
+use Rattle.rec_salvage.specs.declared.errors.SalvageError.TheVariants as salvages
+use Rattle.rec_salvage.specs.declared.errors.SalvageError.{SalvageError}
 use Rattle.rec_salvage.specs.declared.salvaging.Salvaged.{Salvaged}
 use Rattle.rec_salvage.specs.Salvages.{Restores, Salvages}
+use Rattle.rec_salvage_directory.specs.RunFiles.{IsCaused, IsRefusedIn}
 use Rattle.rec_packing.specs.declared.errors.PackError.{PackError}
 use Rattle.rec_packing.specs.declared.packing.Packed.{Packed}
 use Rattle.rec_packing.specs.Faults.{write_fault}
@@ -78,6 +81,18 @@ fails_later None before then now later fails = tt
 fails_later (Some fs) before then now later fails =
     let rose : Rose then now = fails in omega (arith, rose, later)
 
+-- the same of one that failed where a file was read, after it had been used before
+caused_later : (before then now : ℕ) (fault : SalvageError) → before ≤ then
+    → IsCaused then now fault → IsCaused before now fault
+caused_later before then now salvages.BadMagic later cause = tt
+caused_later before then now (salvages.MissingMeta path) later cause = tt
+caused_later before then now (salvages.BadMeta path) later cause = tt
+caused_later before then now (salvages.OpenArchive path) later cause = tt
+caused_later before then now (salvages.OpenRunLog path) later cause = tt
+caused_later before then now (salvages.DiskFault path) later cause =
+    let rose : Rose then now = cause in omega (arith, rose, later)
+caused_later before then now salvages.OutOfMemory later cause = tt
+
 module _ {S : Type 0} (left : S → Option (List ℕ)) (faults : S → ℕ) (limit : ℕ) (s0 s1 : S)
     (dir path : List ℕ) (old mid new : Option Files) (manifest : PortableManifest)
     (has : HasManifest old dir manifest) where
@@ -115,12 +130,18 @@ module _ {S : Type 0} (left : S → Option (List ℕ)) (faults : S → ℕ) (lim
     written (Err e) same makes w c = tt
 
   -- nothing was made
-  pub unmade : (r : Result Packed PackError) (before now : ℕ) → mid ≡ old
-      → IfErr r (MakesNone mid dir)
+  pub unmade : (r : Result Packed PackError) (before then now : ℕ) → mid ≡ old → before ≤ then
+      → IfErr r (MakesNone mid dir then now)
       → IfErr r (IsRefused left faults limit s0 s1 old new dir path before now)
-  unmade (Ok p) before now same none = tt
-  unmade (Err e) before now same none =
-      inr (inr (inl (subst (λ (f : Option Files). MakesNone f dir e) same none)))
+  unmade (Ok p) before then now same later none = tt
+  unmade (Err e) before then now same later (inl memory) = inr (inr (inl (inl memory)))
+  unmade (Err e) before then now same later (inr (fault, is, refused, caused)) =
+      inr (inr (inl (inr (
+        fault,
+        is,
+        subst (λ (f : Option Files). IsRefusedIn f dir fault) same refused,
+        caused_later before then now fault later caused,
+      ))))
 
   -- the bundle wasn't written
   pub unwritten : (r : Result Packed PackError) (before then now : ℕ) → mid ≡ old → before ≤ then

@@ -19,7 +19,7 @@ use Rattle.rec_portable_writer.specs.Replacing.{IsBegun, Replaces}
 use Rattle.rec_salvage.specs.declared.errors.SalvageError.{SalvageError}
 use Rattle.rec_salvage.specs.declared.salvaging.Salvaged.{Salvaged}
 use Rattle.rec_salvage.specs.Salvages.{Restores, Salvages}
-use Rattle.rec_salvage_directory.specs.RunFiles.{IsRefusedIn}
+use Rattle.rec_salvage_directory.specs.RunFiles.{IsCaused, IsRefusedIn}
 use Rattle.rec_packing.specs.declared.errors.PackError.TheVariants.{BundleFault, OutOfMemory}
 use Rattle.rec_packing.specs.declared.errors.PackError.{PackError}
 use Rattle.rec_packing.specs.declared.packing.Packed.{Packed}
@@ -52,11 +52,12 @@ pub record Makes (files : Option Files) (dir : List ℕ) (run : RecordedRunInfo)
       → IsStopped number m events log store → Restores m events made
   pub ends : Ends log store ended
 
--- why nothing was made of it
-abbrev pub MakesNone : Option Files → List ℕ → PackError → Type 0
-MakesNone files dir e =
+-- why nothing was made of it: the disk's fault comes only where its count rose
+abbrev pub MakesNone : Option Files → List ℕ → ℕ → ℕ → PackError → Type 0
+MakesNone files dir before now e =
     (e ≡ OutOfMemory)
-    ⊎ ((fault : SalvageError) × (e ≡ salvage_fault fault) × IsRefusedIn files dir fault)
+    ⊎ ((fault : SalvageError) × (e ≡ salvage_fault fault) × IsRefusedIn files dir fault
+    × IsCaused before now fault)
 
 -- ---- what is packed
 
@@ -97,7 +98,7 @@ module _ {S : Type 0} (left : S → Option (List ℕ)) (faults : S → ℕ) (lim
       LacksManifest old before now dir e
       ⊎ ((manifest : PortableManifest) × HasManifest old dir manifest
       × Unclosed left faults limit (info_of manifest.run) s0 s1 e)
-      ⊎ MakesNone old dir e
+      ⊎ MakesNone old dir before now e
       ⊎ Unwritten old before now e
 
 -- no file has changed, but that the temporary one may hold the begin of something

@@ -90,7 +90,7 @@ fn make<D: Disk>(
     ensures ok { IfOk result
         (λ m. Makes (D.files disk.old) run_dir.now run.now m.salvaged m.ended) }
     ensures err { IfErr result
-        (MakesNone (D.files disk.old) run_dir.now) }
+        (MakesNone (D.files disk.old) run_dir.now (D.faults disk.old) (D.faults disk.new)) }
     ensures same { D.files disk.new ≡ D.files disk.old }
     ensures later { D.faults disk.old ≤ D.faults disk.new }
 {

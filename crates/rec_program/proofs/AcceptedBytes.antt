@@ -16,7 +16,7 @@ use Rattle.rec_words.specs.Words.{Asked, recording, tracing, replaying}
 use Rattle.rec_words.specs.Words.{reporting, informing, slotting, rerunning, viewing}
 use Rattle.rec_words.specs.Words.{sampling, upgrading, salvaging, living, packing, help, version}
 use Rattle.rec_program.specs.Objects.{Objects, SourceGave}
-use Rattle.rec_program.specs.Promises.{Accepts, IsBundle, IsValid, Judges, Shows, Succeeds}
+use Rattle.rec_program.specs.Promises.{Admits, IsBundle, IsValid, Judges, Shows, Succeeds}
 use Rattle.rec_program.specs.Salvaging.{stopped_with}
 
 -- where there is a report of their slots, nothing keeps the events from one
@@ -54,7 +54,7 @@ module _ {S B F D T G : Type 0} (o : Objects S B F D T G) (bytes : List ℕ) whe
 
   pub only_accepted : (number : List ℕ → ℕ) (asked : Asked)
       → Judges asked (o.source.left o.s0) bytes → Succeeds o number asked
-      → Accepts number asked bytes
+      → Admits number asked bytes
   only_accepted number (recording path settings) has (exported, e) = (
     given_within settings.session_limit e.0 has e.3,
     subst (λ (s : List ℕ). session_refusal number settings s ≡ None)
@@ -97,7 +97,7 @@ module _ {S B F D T G : Type 0} (o : Objects S B F D T G) (bytes : List ℕ) whe
           (r.2, r.6.entries, r.5, r.6.prefix, r.6.sound),
         ),
       )
-  only_accepted number (living path settings) has s = absurd has
+  only_accepted number (living path settings) has s = s.2 bytes has
   only_accepted number (packing directory path settings) has s = absurd has
   only_accepted number help has s = tt
   only_accepted number version has s = tt

@@ -18,6 +18,7 @@ use Rattle.rec_export.specs.declared.settings.Settings.{Settings}
 use Rattle.rec_words.specs.Words.{Asked, recording, tracing, replaying}
 use Rattle.rec_words.specs.Words.{reporting, informing, slotting, rerunning, viewing}
 use Rattle.rec_words.specs.Words.{sampling, upgrading, salvaging, living, packing, help, version}
+use Rattle.rec_faults.specs.DirectoryCommands.{live_status}
 use Rattle.rec_faults.specs.Status.{export_status}
 use Rattle.rec_program.proofs.AcceptedBytes.{only_accepted}
 use Rattle.rec_program.proofs.Commands.{bundle_printed, info_is, info_or_memory, log_timeline}
@@ -31,7 +32,7 @@ use Rattle.rec_program.proofs.WritingCommands.{not_salvaged, not_upgraded, salva
 use Rattle.rec_program.proofs.WritingCommands.{salvaged_or_memory, upgraded, upgraded_or_memory}
 use Rattle.rec_program.specs.BundleTraces.{PrintsTrace}
 use Rattle.rec_program.specs.Objects.{Objects, OutFailed, OutTook}
-use Rattle.rec_program.specs.Promises.{Accepts, IsTold, Judges, Shows, Stops, Succeeds}
+use Rattle.rec_program.specs.Promises.{Accepts, Admits, IsTold, Judges, Shows, Stops, Succeeds}
 use Rattle.rec_program.specs.Promises.{Undisturbed}
 use Rattle.rec_program.specs.Running.{Runs, ShowsReading, Tells}
 use Rattle.rec_program.specs.Statuses.{Refuses}
@@ -213,7 +214,12 @@ module _ {S B F D T G : Type 0} (o : Objects S B F D T G) (status : ℕ) where
       o.out.faults o.diag.taken o.diag.faults settings status o.s0 o.s1 o.b0 o.b1 o.o0 o.o1 o.d0
       o.d1 bytes a.1.0 a.1.4.1 a.1.4.0 has a.0 a.1.2 a.1.4.2 a.1.4.3 a.1.4.4 well.0 well.1 well.2
       runs
-  completes number (living path settings) bytes has a well runs = absurd a
+  completes number (living path settings) bytes has a well ((Ok count, lives, told), kept) =
+      inl told.0
+  completes number (living path settings) bytes has a well ((Err e, lives, told), kept) =
+      let only =
+      lives.completes bytes has a.0 a.1 well.0 well.1 well.2 well.3 well.4 in
+      inr (told.0 ∙ ap live_status only)
   completes number (packing directory path settings) bytes has a well runs = absurd a
   completes number help bytes has a well runs = text_told _ well runs
   completes number version bytes has a well runs = text_told _ well runs
@@ -242,7 +248,7 @@ module _ {S B F D T G : Type 0} (o : Objects S B F D T G) (status : ℕ) where
     stopped asked is other = stops number asked other (asked_runs asked is)
 
     pub accepted : (asked : Asked) (bytes : List ℕ) → words ≡ Ok asked
-        → Judges asked (o.source.left o.s0) bytes → status ≡ 0 → Accepts number asked bytes
+        → Judges asked (o.source.left o.s0) bytes → status ≡ 0 → Admits number asked bytes
     accepted asked bytes is has zeroed =
         only_accepted o bytes number asked has (succeeded asked is zeroed)
 

@@ -27,18 +27,24 @@ use Rattle.rec_export.specs.Bundle.{session_refusal}
 use Rattle.rec_export.specs.declared.settings.Settings.{Settings}
 use Rattle.rec_export.specs.Export.{Undelivered}
 use Rattle.rec_export.specs.Reading.{Unread as NotRead}
+use Rattle.rec_live_recording.specs.declared.errors.LiveError.TheVariants as live
+use Rattle.rec_live_recording.specs.declared.errors.LiveError.{LiveError}
+use Rattle.rec_live_recording.specs.Refusals.{ComesOf, IsRefused as IsLiveRefused}
+use Rattle.rec_live_recording.specs.Refusals.{SessionOverflows, recording_refusal}
 use Rattle.rec_words.specs.Words.{Asked, recording, tracing, replaying}
 use Rattle.rec_words.specs.Words.{reporting, informing, slotting, rerunning, viewing}
 use Rattle.rec_words.specs.Words.{sampling, upgrading, salvaging, living, packing, help, version}
+use Rattle.rec_faults.specs.DirectoryCommands.{live_status}
 use Rattle.rec_faults.specs.Status.{export_status, reading_status}
 use Rattle.rec_faults.specs.WritingCommands.{upgrade_status}
 use Rattle.rec_program.specs.BundleTraces.{PrintsTrace}
 use Rattle.rec_program.specs.Objects.{BundleFailed, Objects, OutFailed, SourceFailed, SourceGave}
+use Rattle.rec_program.specs.Objects.{LogFailed, ManifestFailed, StoreFailed}
 use Rattle.rec_program.specs.Promises.{Judges, Undisturbed}
 use Rattle.rec_program.specs.ReadingCommands.{IsMadeOf, Withholds}
 use Rattle.rec_program.specs.Running.{Prints, Runs, ShowsReading}
 use Rattle.rec_program.specs.Salvaging.{SalvagesRun, bundle_refusal, refusal_status}
-use Rattle.rec_program.specs.Statuses.{Refused, Refuses, RefusesSession}
+use Rattle.rec_program.specs.Statuses.{Refused, Refuses, RefusesLive, RefusesSession}
 
 module _ {S B F D T G : Type 0} (o : Objects S B F D T G) (status : ℕ) (bytes : List ℕ)
     (other : ¬ (status ≡ 0)) (memory : ¬ (status ≡ 70)) where
@@ -86,6 +92,30 @@ module _ {S B F D T G : Type 0} (o : Objects S B F D T G) (status : ℕ) (bytes 
     undelivered bundle trace exports.BundleFault sink out u = absurd (sink u.0)
     undelivered bundle trace exports.TraceFault sink out u = absurd (out u.1)
     undelivered bundle trace e sink out u = absurd u
+
+  -- ---- of a session that is recorded while it goes on
+
+  module _ (number : List ℕ → ℕ) (settings : Settings) where
+    unlived : (e : LiveError) → status ≡ live_status e → ¬ SourceFailed o → ¬ ManifestFailed o
+        → ¬ StoreFailed o → ¬ LogFailed o → ¬ OutFailed o
+        → ComesOf (ManifestFailed o) (StoreFailed o) (LogFailed o) (OutFailed o)
+        (IsLiveRefused (SourceFailed o) settings.session_limit (length bytes)
+        (recording_refusal number settings.max_output bytes)
+        (SessionOverflows number settings.max_output bytes)) e
+        → RefusesLive number settings bytes status
+    unlived live.ManifestFault is source manifest store log out c = absurd (manifest c)
+    unlived live.StoreFault is source manifest store log out c = absurd (store c)
+    unlived live.LogFault is source manifest store log out c = absurd (log c)
+    unlived live.OutFault is source manifest store log out c = absurd (out c)
+    unlived (live.Refused e) is source manifest store log out (inl c) = absurd (source c.1)
+    unlived (live.Refused e) is source manifest store log out (inr (inl c)) =
+        inl (c.1, is ∙ ap export_status c.0)
+    unlived (live.Refused e) is source manifest store log out (inr (inr (inl c))) =
+        inr (inl (e, c, is))
+    unlived (live.Refused e) is source manifest store log out (inr (inr (inr (inl c)))) =
+        inr (inr (c.1, is ∙ ap export_status c.0))
+    unlived (live.Refused e) is source manifest store log out (inr (inr (inr (inr c)))) =
+        absurd (memory (is ∙ ap export_status c))
 
   -- ---- of a bundle
 
@@ -225,7 +255,10 @@ module _ {S B F D T G : Type 0} (o : Objects S B F D T G) (status : ℕ) (bytes 
   only_refused number (salvaging path settings) has well (inr (e, kept, b, out, refused)) =
       withheld_so bundle_refusal refusal_status SalvagesRun settings has well.0 (λ most. refl) refl
       e refused.0 kept
-  only_refused number (living path settings) has well runs = absurd has
+  only_refused number (living path settings) has well ((Ok count, lives, told), kept) =
+      absurd (other told.0)
+  only_refused number (living path settings) has well ((Err e, lives, told), kept) =
+      unlived number settings e told.0 well.0 well.1 well.2 well.3 well.4 (lives.cause bytes has)
   only_refused number (packing directory path settings) has well runs = absurd has
   only_refused number help has well runs = printed _ well runs.0
   only_refused number version has well runs = printed _ well runs.0

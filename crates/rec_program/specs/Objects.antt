@@ -74,6 +74,16 @@ module _ {S B F D T G : Type 0} (o : Objects S B F D T G) where
   abbrev pub BundleFailed : Type 0
   BundleFailed = Rose (o.bundle.faults o.b0) (o.bundle.faults o.b1)
 
+  -- the sink of one of a run's files failed
+  abbrev pub ManifestFailed : Type 0
+  ManifestFailed = Rose (o.file.faults o.f0.manifest) (o.file.faults o.f1.manifest)
+
+  abbrev pub StoreFailed : Type 0
+  StoreFailed = Rose (o.file.faults o.f0.store) (o.file.faults o.f1.store)
+
+  abbrev pub LogFailed : Type 0
+  LogFailed = Rose (o.file.faults o.f0.log) (o.file.faults o.f1.log)
+
   -- the same of the sink of what is printed
   abbrev pub OutTook : List ℕ → Type 0
   OutTook bytes = Appends (o.out.taken o.o0) (o.out.taken o.o1) bytes

@@ -29,7 +29,7 @@ use Rattle.rec_export.specs.declared.counts.Exported.{Exported}
 use Rattle.rec_export.specs.declared.settings.Settings.{Settings}
 use Rattle.rec_export.specs.Export.{Exports}
 use Rattle.rec_export.specs.Timelines.{DrawsTimeline}
-use Rattle.rec_live_recording.specs.Refusals.{recording_refusal}
+use Rattle.rec_live_recording.specs.Refusals.{IsRecordable, recording_refusal}
 use Rattle.rec_packing.specs.declared.packing.Packed.{Packed}
 use Rattle.rec_packing.specs.Packing.{LeavesFiles as LeavesBundle, Packs}
 use Rattle.rec_words.specs.declared.usage.TheConstants.{USAGE}
@@ -43,6 +43,7 @@ use Rattle.rec_program.specs.LiveRuns.{AcknowledgesAll, FinishesFiles, KeepsAckn
 use Rattle.rec_program.specs.LogTraces.{log_refusal, plain_log}
 use Rattle.rec_program.specs.Objects.{Objects, SourceGave, SourceFailed}
 use Rattle.rec_program.specs.Objects.{BundleTook, BundleTookPart, BundleFailed, OutTook, OutFailed}
+use Rattle.rec_program.specs.Objects.{LogFailed, ManifestFailed, StoreFailed}
 use Rattle.rec_program.specs.Salvaging.{StoppedRun, stopped_run}
 use Rattle.rec_program.specs.Samples.{TakesSample, session_counts}
 
@@ -152,7 +153,6 @@ module _ {S B F D T G : Type 0} (o : Objects S B F D T G) where
 -- the bytes that a command judges: those that the source has left, or the session that it makes
 abbrev pub Judges : Asked → Option (List ℕ) → List ℕ → Type 0
 Judges (sampling n path settings) left bytes = bytes ≡ sample_session n
-Judges (living path settings) left bytes = ⊥
 Judges (packing directory path settings) left bytes = ⊥
 Judges help left bytes = ⊤
 Judges version left bytes = ⊤
@@ -200,10 +200,18 @@ Accepts number (salvaging path settings) bytes =
     × (stopped_run settings.read_limit es ≡ Ok stopped) × IsWholePrefix stopped.store prefix
     × (prefix_refusal prefix ≡ None))
     bytes
-Accepts number (living path settings) bytes = ⊥
+Accepts number (living path settings) bytes =
+    (length bytes ≤ settings.session_limit) × IsRecordable number settings.max_output bytes
 Accepts number (packing directory path settings) bytes = ⊥
 Accepts number help bytes = ⊤
 Accepts number version bytes = ⊤
+
+-- what status 0 says of the bytes: the command accepts them; of a recording that goes on, that
+-- nothing in them refuses it
+abbrev pub Admits : (List ℕ → ℕ) → Asked → List ℕ → Type 0
+Admits number (living path settings) bytes =
+    recording_refusal number settings.max_output bytes ≡ None
+Admits number asked bytes = Accepts number asked bytes
 
 module _ {S B F D T G : Type 0} (o : Objects S B F D T G) where
   -- none of the objects that a command uses failed
@@ -214,6 +222,8 @@ module _ {S B F D T G : Type 0} (o : Objects S B F D T G) where
   Undisturbed (upgrading path settings) = ¬ SourceFailed o × ¬ BundleFailed o
   Undisturbed (salvaging path settings) =
       ¬ SourceFailed o × ¬ BundleFailed o × ¬ OutFailed o
+  Undisturbed (living path settings) =
+      ¬ SourceFailed o × ¬ ManifestFailed o × ¬ StoreFailed o × ¬ LogFailed o × ¬ OutFailed o
   Undisturbed help = ¬ OutFailed o
   Undisturbed version = ¬ OutFailed o
   Undisturbed asked = ¬ SourceFailed o × ¬ OutFailed o

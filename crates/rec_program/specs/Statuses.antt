@@ -1,8 +1,9 @@
 -- Which status comes for which bytes.
-use Rattle.std.specs.Prelude.{◌≡◌, ◌⊎◌, ◌<◌, ◌≤◌, ℕ, List, length, Some, Result, Err}
+use Rattle.std.specs.Prelude.{◌≡◌, ◌⊎◌, ◌<◌, ◌≤◌, ℕ, List, length, None, Some, Result, Err}
 use Rattle.rec_container.specs.Container.{Entry}
 use Rattle.rec_portable.specs.declared.upgrade_error.UpgradeError.{UpgradeError}
 use Rattle.rec_portable.specs.Upgrading.{IsRefused}
+use Rattle.rec_errors.specs.declared.export_error.RecordExportError.TheVariants.{CountOutOfRange}
 use Rattle.rec_errors.specs.declared.export_error.RecordExportError.{RecordExportError}
 use Rattle.rec_errors.specs.declared.reading_error.ReadingError.{ReadingError}
 use Rattle.rec_errors.specs.ReadingErrors.{bundle_error}
@@ -12,6 +13,7 @@ use Rattle.rec_reading.specs.Slots.{PrintsSlots}
 use Rattle.rec_reading.specs.Views.{PrintsView}
 use Rattle.rec_export.specs.Bundle.{session_refusal}
 use Rattle.rec_export.specs.declared.settings.Settings.{Settings}
+use Rattle.rec_live_recording.specs.Refusals.{SessionOverflows, recording_refusal}
 use Rattle.rec_words.specs.Words.{Asked, recording, tracing, replaying}
 use Rattle.rec_words.specs.Words.{reporting, informing, slotting, rerunning, viewing}
 use Rattle.rec_words.specs.Words.{sampling, upgrading, salvaging, living, packing, help, version}
@@ -27,6 +29,17 @@ abbrev pub RefusesSession : (List ℕ → ℕ) → Settings → List ℕ → ℕ
 RefusesSession number settings session status =
     (e : RecordExportError) × (session_refusal number settings session ≡ Some e)
     × (status ≡ export_status e)
+
+-- a session is refused with this status while it is recorded: with 4 where it is longer than the
+-- session limit; with that of its first refusal; or with that of a count out of range, where log or
+-- store would get too long
+abbrev pub RefusesLive : (List ℕ → ℕ) → Settings → List ℕ → ℕ → Type 0
+RefusesLive number settings session status =
+    ((settings.session_limit < length session) × (status ≡ 4))
+    ⊎ ((e : RecordExportError) × (recording_refusal number settings.max_output session ≡ Some e)
+    × (status ≡ export_status e))
+    ⊎ (SessionOverflows number settings.max_output session
+    × (status ≡ export_status (CountOutOfRange None)))
 
 -- a bundle is refused with this status by a command that prints something of it
 abbrev pub RefusesBundle : (ℕ → List Entry → Result (List ℕ) ReadingError → Type 0) → Settings
@@ -64,7 +77,7 @@ Refuses number (salvaging path settings) =
     Refused settings (λ bytes status. (e : SalvageRefusal)
     × IsMadeOf bundle_refusal SalvagesRun settings.read_limit bytes (Err e)
     × (status ≡ refusal_status e))
-Refuses number (living path settings) = λ bytes status. ⊥
+Refuses number (living path settings) = RefusesLive number settings
 Refuses number (packing directory path settings) = λ bytes status. ⊥
 Refuses number help = λ bytes status. ⊥
 Refuses number version = λ bytes status. ⊥

@@ -12,7 +12,7 @@ ghost use Rattle.rec_export.specs.declared.settings.Settings.{Settings};
 ghost use Rattle.rec_words.specs.Words.{Asked, command, texts, tracing, upgrading};
 ghost use Rattle.rec_program.specs.Counts.{counts_line};
 ghost use Rattle.rec_program.specs.Objects.{lent};
-ghost use Rattle.rec_program.specs.Promises.{Accepts, IsTold, Judges, LeavesFiles};
+ghost use Rattle.rec_program.specs.Promises.{Accepts, Admits, IsTold, Judges, LeavesFiles};
 ghost use Rattle.rec_program.specs.Promises.{Stops, Succeeds, Undisturbed};
 ghost use Rattle.rec_program.specs.Running.{Prints, Records, RecordsSample, Runs, RunsLive};
 ghost use Rattle.rec_program.specs.Running.{RunsSalvage};
@@ -110,12 +110,13 @@ pub fn run_program<S: Source, B: Sink, F: Sink, D: Disk, T: Sink, G: Sink>(
         result.streams) asked
         → (result.status ≡ 0) ⊎ (result.status ≡ 70) }
 
-    // Status 0 comes only for bytes that the command accepts.
+    // Status 0 comes only for bytes that the command accepts; of `live`, for a session that nothing
+    // in it refuses.
     ensures accepts { (asked : Asked) (bytes : List ℕ)
         → command (texts words.now) ≡ Ok asked
         → Judges asked (S.left streams.source) bytes
         → result.status ≡ 0
-        → Accepts sha256_number asked bytes }
+        → Admits sha256_number asked bytes }
 
     // Where none of the objects that the command uses failed, a status other than 0 and 70 comes
     // only for bytes that the command refuses with it.

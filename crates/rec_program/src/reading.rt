@@ -29,10 +29,7 @@ pub fn read_bundle<S: Source, P: BundleText>(
         settings.now.session_limit source.old source.new) }
 {
     let bundle = open_bundle(alloc, settings, source)?;
-    let result = printer.text(alloc, &bundle);
-    // By a call: in place, each part of the manifest would be a case of the proof.
-    bundle.discard();
-    result
+    printer.text(alloc, bundle)
 }
 
 /// Reads the bundle of a source. It stands on no path.

@@ -23,8 +23,10 @@ pub struct Trace {
 impl BundleText for Trace {
     ghost prints = { λ trace. PrintsTrace trace.group_by trace.message_format };
 
-    fn text(&self, alloc: Global, bundle: &PortableRecording) -> Result<Vec<u8>, ReadingError> {
-        trace_text(alloc, bundle, self.group_by, self.message_format)
+    fn text(&self, alloc: Global, bundle: PortableRecording) -> Result<Vec<u8>, ReadingError> {
+        let result = trace_text(alloc, &bundle, self.group_by, self.message_format);
+        bundle.discard();
+        result
     }
 }
 

@@ -1,9 +1,10 @@
 -- What is printed of a bundle's run for those who look at it.
-use Rattle.std.proofs.Common.{◌≡◌, ◌++◌, inl, inr, ℕ, List, Result, Ok, Err, Vec, Global}
+use Rattle.std.proofs.Common.{◌≡◌, ◌++◌, inl, inr, ℕ, List, Result, Ok, Err}
 use Rattle.std.proofs.Common.{ap, sym, ◌∙◌}
 use Rattle.rec_container.specs.Container.{Entry, IsContainer}
 use Rattle.rec_container.specs.Reading.{◌>>=◌}
 use Rattle.rec_format.specs.declared.manifest.PortableManifest.{PortableManifest}
+use Rattle.rec_format.specs.declared.run.RecordedRun.{RecordedRun}
 use Rattle.rec_codec.specs.Event.{RecordedEvent}
 use Rattle.rec_portable.specs.Judging.{IsJudged, judged}
 use Rattle.rec_replay.specs.declared.output_load.LoadOutput.{LoadOutput}
@@ -12,9 +13,9 @@ use Rattle.rec_reading.proofs.Listed.{judged_of}
 use Rattle.rec_reading.proofs.Opened.{Refused, stage-passed, stage-refused}
 use Rattle.rec_reading.specs.Listing.{Makes}
 use Rattle.rec_reading.specs.LogEvents.{run_events}
-use Rattle.rec_reading.specs.Printing.{Adds, before}
+use Rattle.rec_reading.specs.Printing.{before}
 use Rattle.rec_reading.specs.RunParts.{of_bundle}
-use Rattle.rec_reading.specs.Views.{PrintsView, outputs_if, view_line}
+use Rattle.rec_reading.specs.Views.{PrintsView, outputs_if, view_line, view_of}
 
 module _ (load : LoadOutput) (limit : ℕ) (bytes : List ℕ) (manifest : PortableManifest)
     (read : IsJudged bytes limit (Ok manifest)) (es : List Entry) (is : IsContainer bytes es) where
@@ -34,23 +35,21 @@ module _ (load : LoadOutput) (limit : ℕ) (bytes : List ℕ) (manifest : Portab
       stage-passed (of_bundle (judged limit es)) with_manifest manifest e manifest_at
       (stage-refused (run_events limit es) (with_events manifest) e h)
 
-  pub view-made : (events : List RecordedEvent) → run_events limit es ≡ Ok events
-      → (r : Result (Vec ℕ Global) ReadingError)
-      → Makes (λ x. with_events manifest events ≡ x) r → Makes (PrintsView load limit es) r
-  view-made events all (Ok text) made =
-      ap (λ r. r >>= with_manifest) manifest_at ∙ ap (λ r. r >>= with_events manifest) all ∙ made
-  view-made events all (Err e) (inl memory) = inl memory
-  view-made events all (Err e) (inr refused) =
-      stage-passed (of_bundle (judged limit es)) with_manifest manifest e manifest_at
-      (stage-passed (run_events limit es) (with_events manifest) events e all (inr refused))
+  module _ (events : List RecordedEvent) (all : run_events limit es ≡ Ok events) where
+    -- the outputs aren't read
+    pub outputs-unread : (e : ReadingError) → Refused (outputs_if load es events) e
+        → Refused (view_of load limit es) e
+    outputs-unread e (inl memory) = inl memory
+    outputs-unread e (inr refused) =
+        stage-passed (of_bundle (judged limit es)) with_manifest manifest e manifest_at
+        (stage-passed (run_events limit es) (with_events manifest) events e all
+        (inr (ap (before (view_line manifest.run events)) refused)))
 
--- outputs behind a line
-pub outputs-added : (line : List ℕ) (r : Result (List ℕ) ReadingError) (old new : List ℕ)
-    → old ≡ line → Adds r old new (Ok tt) → before line r ≡ Ok new
-outputs-added line r old new same (added, is, written) =
-    ap (before line) is ∙ ap (λ l. Ok (l ++ added)) (sym same) ∙ ap Ok (sym written)
-
-pub outputs-refused : (line : List ℕ) (r : Result (List ℕ) ReadingError) (old new : List ℕ)
-    (e : ReadingError) → Adds r old new (Err e) → Makes (λ x. before line r ≡ x) (Err e)
-outputs-refused line r old new e (inl memory) = inl memory
-outputs-refused line r old new e (inr refused) = inr (ap (before line) refused)
+    -- all is read
+    pub parts-read : (copy : RecordedRun) (outputs : List ℕ) → copy ≡ manifest.run
+        → outputs_if load es events ≡ Ok outputs
+        → view_of load limit es ≡ Ok (view_line copy events ++ outputs)
+    parts-read copy outputs copied is =
+        ap (λ r. r >>= with_manifest) manifest_at ∙ ap (λ r. r >>= with_events manifest) all
+        ∙ ap (before (view_line manifest.run events)) is
+        ∙ ap (λ run. Ok (view_line run events ++ outputs)) (sym copied)

@@ -11,3 +11,4 @@ pub mod Stores
 pub mod Slots
 pub mod Outputs
 pub mod Views
+pub mod ViewParts

@@ -20,7 +20,7 @@ use Rattle.rec_store.specs.Parts.{metadata_part, rerun_info_part}
 use Rattle.rec_portable.specs.Judging.{judged}
 use Rattle.rec_portable.specs.OuterEntries.{log_part}
 use Rattle.rec_rerun.specs.declared.plan.RerunPlan.{RerunPlan}
-use Rattle.rec_rerun.specs.Plans.{AreApart, gone_of, is_in, run_of, skip_of}
+use Rattle.rec_rerun.specs.Plans.{gone_of, is_in, run_of, skip_of}
 use Rattle.rec_rerun.specs.Selection.{IsSelection, is_recorded, root_of}
 use Rattle.rec_rerun.specs.Suites.{has_outstanding, has_passing}
 use Rattle.rec_errors.specs.declared.reading_error.ReadingError.TheVariants.{OutOfMemory}
@@ -90,7 +90,7 @@ pub record IsPlanOf (info : RerunInfo) (list : TestListSummary) (plan : RerunPla
   pub parted : (t : OwnedTestInstanceId)
       → (is_in plan.run t || is_in plan.skip t) ≡ is_listed list t
   pub apart : (t : OwnedTestInstanceId) → (is_in plan.run t && is_in plan.skip t) ≡ false
-  pub kept : AreApart info.test_suites → (t : OwnedTestInstanceId)
+  pub kept : (t : OwnedTestInstanceId)
       → has_outstanding info.test_suites t ≡ true → (is_in plan.run t || is_in plan.gone t) ≡ true
 
 -- what is to run again is selected by these lines; or one of them gives no event, or memory ran out

@@ -24,15 +24,15 @@ pub trait BundleText {
     /// The manifest of the bundle was judged before.
     ghost prints: { Self → ℕ → List Entry → Result (List ℕ) ReadingError → Type 0 };
 
-    /// Makes the text.
+    /// Makes the text. The bundle is freed as soon as it isn't needed.
     ///
     /// # Errors
     ///
     /// Why nothing is printed of the bundle. `OutOfMemory` may come at any time.
-    fn text(&self, alloc: Global, bundle: &PortableRecording) -> Result<Vec<u8>, ReadingError>
+    fn text(&self, alloc: Global, bundle: PortableRecording) -> Result<Vec<u8>, ReadingError>
         ensures { (es : List Entry)
-            → IsContainer bundle.now.bytes es
-            → Makes (prints self.now bundle.now.limit es) result };
+            → IsContainer bundle.bytes es
+            → Makes (prints self.now bundle.limit es) result };
 }
 
 /// Prints the manifest, as [`info_text`] makes it.
@@ -42,8 +42,10 @@ pub struct Info;
 impl BundleText for Info {
     ghost prints = { λ _. PrintsInfo };
 
-    fn text(&self, alloc: Global, bundle: &PortableRecording) -> Result<Vec<u8>, ReadingError> {
-        info_text(alloc, bundle)
+    fn text(&self, alloc: Global, bundle: PortableRecording) -> Result<Vec<u8>, ReadingError> {
+        let result = info_text(alloc, &bundle);
+        bundle.discard();
+        result
     }
 }
 
@@ -57,8 +59,10 @@ pub struct Replay {
 impl BundleText for Replay {
     ghost prints = { λ replay. PrintsReplay replay.load_output };
 
-    fn text(&self, alloc: Global, bundle: &PortableRecording) -> Result<Vec<u8>, ReadingError> {
-        replay_text(alloc, bundle, self.load_output)
+    fn text(&self, alloc: Global, bundle: PortableRecording) -> Result<Vec<u8>, ReadingError> {
+        let result = replay_text(alloc, &bundle, self.load_output);
+        bundle.discard();
+        result
     }
 }
 
@@ -69,8 +73,10 @@ pub struct Report;
 impl BundleText for Report {
     ghost prints = { λ _. PrintsReport };
 
-    fn text(&self, alloc: Global, bundle: &PortableRecording) -> Result<Vec<u8>, ReadingError> {
-        report_text(alloc, bundle)
+    fn text(&self, alloc: Global, bundle: PortableRecording) -> Result<Vec<u8>, ReadingError> {
+        let result = report_text(alloc, &bundle);
+        bundle.discard();
+        result
     }
 }
 
@@ -81,8 +87,10 @@ pub struct Rerun;
 impl BundleText for Rerun {
     ghost prints = { λ _. PrintsRerun };
 
-    fn text(&self, alloc: Global, bundle: &PortableRecording) -> Result<Vec<u8>, ReadingError> {
-        rerun_text(alloc, bundle)
+    fn text(&self, alloc: Global, bundle: PortableRecording) -> Result<Vec<u8>, ReadingError> {
+        let result = rerun_text(alloc, &bundle);
+        bundle.discard();
+        result
     }
 }
 
@@ -93,7 +101,7 @@ pub struct Slots;
 impl BundleText for Slots {
     ghost prints = { λ _. PrintsSlots };
 
-    fn text(&self, alloc: Global, bundle: &PortableRecording) -> Result<Vec<u8>, ReadingError> {
+    fn text(&self, alloc: Global, bundle: PortableRecording) -> Result<Vec<u8>, ReadingError> {
         slots_text(alloc, bundle)
     }
 }
@@ -108,7 +116,7 @@ pub struct View {
 impl BundleText for View {
     ghost prints = { λ view. PrintsView view.load_output };
 
-    fn text(&self, alloc: Global, bundle: &PortableRecording) -> Result<Vec<u8>, ReadingError> {
+    fn text(&self, alloc: Global, bundle: PortableRecording) -> Result<Vec<u8>, ReadingError> {
         view_text(alloc, bundle, self.load_output)
     }
 }

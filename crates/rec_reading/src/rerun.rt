@@ -2,6 +2,7 @@
 ghost use Rattle.std.specs.Prelude.{◌≡◌, ◌++◌, [], List, IfOk, OnOk, Option};
 ghost use Rattle.rec_container.specs.Container.{Entry, IsContainer};
 ghost use Rattle.rec_format.specs.declared.rerun.RerunInfo.{RerunInfo};
+ghost use Rattle.rec_rerun.specs.Plans.{AreApart};
 ghost use Rattle.rec_rerun.specs.Selection.{HasTaken};
 ghost use Rattle.rec_reading.specs.Listing.{Makes};
 ghost use Rattle.rec_reading.specs.LogLines.{log_lines};
@@ -183,7 +184,8 @@ fn read_parent(
 /// Writes which tests are to run again, and what that means for the tests of the run. What isn't
 /// needed any more is let go before the text is made.
 fn plan_text(alloc: Global, selected: SelectedTests) -> Result<Vec<u8>, AllocError>
-    ensures { IfOk result (λ text. PrintsPlan selected.info selected.tests text.items) }
+    ensures { AreApart selected.info.test_suites
+        → IfOk result (λ text. PrintsPlan selected.info selected.tests text.items) }
 {
     let SelectedTests { info, tests } = selected;
     let planned = plan_rerun(alloc, &info, &tests);

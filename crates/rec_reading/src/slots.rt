@@ -15,6 +15,7 @@ use std::alloc::{AllocError, Global};
 
 /// Writes how the slots of a bundle's run were used: a line with the length of the run, and then
 /// one for each slot on which an attempt started, in rising order. All times are in nanoseconds.
+/// The bundle is freed once its events are read.
 ///
 /// # Errors
 ///
@@ -23,12 +24,14 @@ use std::alloc::{AllocError, Global};
 /// - `Slots` with the cause for which the events have no report of their slots.
 ///
 /// `OutOfMemory` may come at any time.
-pub fn slots_text(alloc: Global, bundle: &PortableRecording) -> Result<Vec<u8>, ReadingError>
+pub fn slots_text(alloc: Global, bundle: PortableRecording) -> Result<Vec<u8>, ReadingError>
     ensures { (es : List Entry)
-        → IsContainer bundle.now.bytes es
-        → Makes (PrintsSlots bundle.now.limit es) result }
+        → IsContainer bundle.bytes es
+        → Makes (PrintsSlots bundle.limit es) result }
 {
-    let events = read_log(alloc, bundle)?;
+    let read = read_log(alloc, &bundle);
+    bundle.discard();
+    let events = read?;
     let result = usage_text(alloc, &events);
     // By a call: in place, each kind of event would be a case of the proof.
     drop(events);

@@ -86,7 +86,7 @@ impl Walk {
         ensures ok { OnOk result (Opens self.old self.new test.now) }
     {
         let index = self.tests.len();
-        let mut attempts = Vec::new(self.alloc);
+        let mut attempts = Vec::with_capacity(self.alloc, 1)?;
         attempts.push(Attempt {
             from: self.number,
             to: None,

@@ -10,6 +10,8 @@ use Rattle.rec_events.specs.declared.events.CoreEventKind.TheVariants.{
   TestRetryStarted,
   TestSkipped,
   RunBeginCancel,
+  RunStarted,
+  RunFinished,
 }
 use Rattle.rec_events.specs.declared.events.CoreEventKind.{CoreEventKind}
 use Rattle.rec_events.specs.declared.events.OutputEventKind.TheVariants.{
@@ -29,6 +31,9 @@ use Rattle.rec_events.specs.declared.script_statuses.SetupScriptExecuteStatus.{
 use Rattle.rec_events.specs.declared.skipping.MismatchReason.{MismatchReason}
 use Rattle.rec_events.specs.declared.statuses.ExecuteStatus.{ExecuteStatus}
 use Rattle.rec_events.specs.Times.{Moment}
+use Rattle.rec_view_json.specs.declared.marks.Mark.TheVariants.{Cancelled, RunFinish}
+use Rattle.rec_view_json.specs.declared.marks.Mark.TheVariants.{RunStart, ScriptStart, Slow}
+use Rattle.rec_view_json.specs.declared.marks.Mark.{Mark}
 
 -- ---- events without outputs
 
@@ -75,6 +80,20 @@ core_slow _ = false
 abbrev pub core_cancels : CoreEventKind → Bool
 core_cancels (RunBeginCancel scripts running reason) = true
 core_cancels _ = false
+
+-- the run starts, or has finished
+abbrev pub core_starts_run : CoreEventKind → Bool
+core_starts_run (RunStarted run_id profile_name cli_args stress_condition) = true
+core_starts_run _ = false
+
+abbrev pub core_finishes_run : CoreEventKind → Bool
+core_finishes_run (RunFinished run_id start_time elapsed run_stats outstanding) = true
+core_finishes_run _ = false
+
+-- a setup script starts
+abbrev pub core_starts_script : CoreEventKind → Bool
+core_starts_script (SetupScriptStarted stress index total script program args no_capture) = true
+core_starts_script _ = false
 
 -- ---- events
 
@@ -140,6 +159,26 @@ module _ {S O : Type 0} where
   abbrev pub cancels : TestEventKindSummary S O → Bool
   cancels (Core kind) = core_cancels kind
   cancels (Output kind) = false
+
+  abbrev pub starts_run : TestEventKindSummary S O → Bool
+  starts_run (Core kind) = core_starts_run kind
+  starts_run (Output kind) = false
+
+  abbrev pub finishes_run : TestEventKindSummary S O → Bool
+  finishes_run (Core kind) = core_finishes_run kind
+  finishes_run (Output kind) = false
+
+  abbrev pub starts_script : TestEventKindSummary S O → Bool
+  starts_script (Core kind) = core_starts_script kind
+  starts_script (Output kind) = false
+
+  -- an event is listed as the log has it, under this mark
+  abbrev pub is_marked : Mark → TestEventKindSummary S O → Bool
+  is_marked Cancelled = cancels
+  is_marked RunFinish = finishes_run
+  is_marked RunStart = starts_run
+  is_marked ScriptStart = starts_script
+  is_marked Slow = is_slow
 
 -- ---- events by their positions
 

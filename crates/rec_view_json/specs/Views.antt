@@ -35,9 +35,10 @@ use Rattle.rec_view.specs.Scripts.{script_acts, scripts}
 use Rattle.rec_view.specs.Slices.{active, all_slices, pauses}
 use Rattle.rec_view.specs.Tests.{verdicts}
 use Rattle.rec_view.specs.Unnamed.{unnamed}
-use Rattle.rec_view_json.specs.Told.{cancels, index_told, instant_at, is_slow, moment_at}
-use Rattle.rec_view_json.specs.Told.{reason_told, retry_told, script_status_told, script_told}
-use Rattle.rec_view_json.specs.Told.{slot_told, status_told, stress_told, told_at}
+use Rattle.rec_view_json.specs.Told.{cancels, finishes_run, index_told, instant_at, is_slow}
+use Rattle.rec_view_json.specs.Told.{moment_at, reason_told, retry_told, script_status_told}
+use Rattle.rec_view_json.specs.Told.{script_told, slot_told, starts_run, starts_script}
+use Rattle.rec_view_json.specs.Told.{status_told, stress_told, told_at}
 
 -- the values of the items that have one
 abbrev pub some_values : {T : Type 0} → (T → Option Data) → List T → Data
@@ -149,6 +150,9 @@ view_value run events =
     ∷ optional (codes "end") stamp_value (instant_at events (length events - 1))
     ∷ field (codes "pauses") (list_value (slice_value events) (pauses (history_of events)))
     ∷ field (codes "run") run
+    ∷ field (codes "run-finished") (some_values (event_if finishes_run) events)
+    ∷ field (codes "run-started") (some_values (event_if starts_run) events)
     ∷ field (codes "scripts") (list_value (script_value events) (scripts (script_acts events)))
+    ∷ field (codes "setup-script-started") (some_values (event_if starts_script) events)
     ∷ field (codes "slow") (some_values (event_if is_slow) events)
     ∷ field (codes "tests") (list_value (test_value events) (rows_of (acts events))) ∷ [])

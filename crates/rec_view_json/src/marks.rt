@@ -3,11 +3,12 @@ ghost use Rattle.std.specs.Prelude.{◌≡◌, ◌++◌, OnOk};
 ghost use Rattle.rec_json.specs.Tokens.{value_tokens};
 ghost use Rattle.rec_forms.specs.Outputs.{stored_outputs_value};
 ghost use Rattle.rec_codec.specs.EventForms.{event_value};
+ghost use Rattle.rec_view_json.specs.Told.{is_marked};
 
 use crate::lists::SomeWriter;
-use crate::told::{cancels, is_slow};
+use crate::told::{cancels, finishes_run, is_slow, starts_run, starts_script};
 use rec_codec::{ToValueError, write_event};
-use rec_events::{RecordingSpec, TestEventSummary};
+use rec_events::{RecordingSpec, TestEventKindSummary, TestEventSummary};
 use rec_json::JsonText;
 use std::alloc::{AllocError, Global};
 
@@ -27,42 +28,41 @@ fn write_recorded(
     }
 }
 
-/// Writes the events by which the run is cancelled.
+/// Which events stand in a list of a view.
 #[derive(Clone, Copy)]
-pub(crate) struct CancelWriter;
+pub(crate) enum Mark {
+    /// Those by which the run is cancelled.
+    Cancelled,
+    /// Those with which the run finishes.
+    RunFinish,
+    /// Those with which the run starts.
+    RunStart,
+    /// Those with which a setup script starts.
+    ScriptStart,
+    /// Those that tell of something that has run for longer than it should.
+    Slow,
+}
 
-/// Writes the events that tell of something that has run for longer than it should.
-#[derive(Clone, Copy)]
-pub(crate) struct SlowWriter;
-
-impl SomeWriter for CancelWriter {
-    ghost use Rattle.rec_view_json.specs.Told.{cancels};
-    ghost use Rattle.rec_view_json.specs.Views.{event_if};
-
-    type Item = TestEventSummary<RecordingSpec>;
-
-    ghost value_of = { λ _. event_if cancels };
-
-    fn write(
-        &self,
-        alloc: Global,
-        text: &mut JsonText,
-        item: &TestEventSummary<RecordingSpec>,
-    ) -> Result<(), AllocError> {
-        if cancels(&item.kind) {
-            return write_recorded(alloc, text, item);
-        }
-        Ok(())
+/// Returns whether an event stands in a list.
+fn is_marked(mark: Mark, kind: &TestEventKindSummary<RecordingSpec>) -> bool
+    ensures { result ≡ is_marked mark kind.now }
+{
+    match mark {
+        Mark::Cancelled => cancels(kind),
+        Mark::RunFinish => finishes_run(kind),
+        Mark::RunStart => starts_run(kind),
+        Mark::ScriptStart => starts_script(kind),
+        Mark::Slow => is_slow(kind),
     }
 }
 
-impl SomeWriter for SlowWriter {
-    ghost use Rattle.rec_view_json.specs.Told.{is_slow};
+impl SomeWriter for Mark {
+    ghost use Rattle.rec_view_json.specs.Told.{is_marked};
     ghost use Rattle.rec_view_json.specs.Views.{event_if};
 
     type Item = TestEventSummary<RecordingSpec>;
 
-    ghost value_of = { λ _. event_if is_slow };
+    ghost value_of = { λ mark. event_if (is_marked mark) };
 
     fn write(
         &self,
@@ -70,7 +70,7 @@ impl SomeWriter for SlowWriter {
         text: &mut JsonText,
         item: &TestEventSummary<RecordingSpec>,
     ) -> Result<(), AllocError> {
-        if is_slow(&item.kind) {
+        if is_marked(*self, &item.kind) {
             return write_recorded(alloc, text, item);
         }
         Ok(())

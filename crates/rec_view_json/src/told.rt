@@ -1,11 +1,13 @@
 //! What an event tells of the test or the attempt that it is of.
 ghost use Rattle.std.specs.Prelude.{◌≡◌, option_map};
-ghost use Rattle.rec_view_json.specs.Told.{cancels, core_cancels, core_index, core_reason};
-ghost use Rattle.rec_view_json.specs.Told.{core_retry, core_script, core_slot, core_slow};
-ghost use Rattle.rec_view_json.specs.Told.{core_stress, index_told, is_slow, output_script_status};
+ghost use Rattle.rec_view_json.specs.Told.{cancels, core_cancels, core_finishes_run, core_index};
+ghost use Rattle.rec_view_json.specs.Told.{core_reason, core_retry, core_script, core_slot};
+ghost use Rattle.rec_view_json.specs.Told.{core_slow, core_starts_run, core_starts_script};
+ghost use Rattle.rec_view_json.specs.Told.{core_stress, finishes_run, starts_script};
+ghost use Rattle.rec_view_json.specs.Told.{index_told, is_slow, output_script_status};
 ghost use Rattle.rec_view_json.specs.Told.{output_status, output_stress, reason_told, retry_told};
 ghost use Rattle.rec_view_json.specs.Told.{script_status_told, script_told, slot_told};
-ghost use Rattle.rec_view_json.specs.Told.{status_told, stress_told};
+ghost use Rattle.rec_view_json.specs.Told.{starts_run, status_told, stress_told};
 
 use rec_events::{
     CoreEventKind, ExecuteStatus, MismatchReason, OutputEventKind, OutputSpec, RetryData, ScriptId,
@@ -91,6 +93,33 @@ fn core_cancels(kind: &CoreEventKind) -> bool
 {
     match kind {
         CoreEventKind::RunBeginCancel { .. } => true,
+        _ => false,
+    }
+}
+
+fn core_starts_run(kind: &CoreEventKind) -> bool
+    ensures { result ≡ core_starts_run kind.now }
+{
+    match kind {
+        CoreEventKind::RunStarted { .. } => true,
+        _ => false,
+    }
+}
+
+fn core_finishes_run(kind: &CoreEventKind) -> bool
+    ensures { result ≡ core_finishes_run kind.now }
+{
+    match kind {
+        CoreEventKind::RunFinished { .. } => true,
+        _ => false,
+    }
+}
+
+fn core_starts_script(kind: &CoreEventKind) -> bool
+    ensures { result ≡ core_starts_script kind.now }
+{
+    match kind {
+        CoreEventKind::SetupScriptStarted { .. } => true,
         _ => false,
     }
 }
@@ -229,6 +258,36 @@ pub(crate) fn cancels<S: OutputSpec>(kind: &TestEventKindSummary<S>) -> bool
 {
     match kind {
         TestEventKindSummary::Core(kind) => core_cancels(kind),
+        TestEventKindSummary::Output(_) => false,
+    }
+}
+
+/// Returns whether the run starts.
+pub(crate) fn starts_run<S: OutputSpec>(kind: &TestEventKindSummary<S>) -> bool
+    ensures { result ≡ starts_run kind.now }
+{
+    match kind {
+        TestEventKindSummary::Core(kind) => core_starts_run(kind),
+        TestEventKindSummary::Output(_) => false,
+    }
+}
+
+/// Returns whether the run has finished.
+pub(crate) fn finishes_run<S: OutputSpec>(kind: &TestEventKindSummary<S>) -> bool
+    ensures { result ≡ finishes_run kind.now }
+{
+    match kind {
+        TestEventKindSummary::Core(kind) => core_finishes_run(kind),
+        TestEventKindSummary::Output(_) => false,
+    }
+}
+
+/// Returns whether a setup script starts.
+pub(crate) fn starts_script<S: OutputSpec>(kind: &TestEventKindSummary<S>) -> bool
+    ensures { result ≡ starts_script kind.now }
+{
+    match kind {
+        TestEventKindSummary::Core(kind) => core_starts_script(kind),
         TestEventKindSummary::Output(_) => false,
     }
 }

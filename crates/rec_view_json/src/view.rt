@@ -16,13 +16,13 @@ ghost use Rattle.rec_view.specs.ShownGaps.{AreGaps};
 ghost use Rattle.rec_view.specs.Slices.{pauses};
 ghost use Rattle.rec_view.specs.Tests.{verdicts};
 ghost use Rattle.rec_view.specs.Unnamed.{unnamed};
-ghost use Rattle.rec_view_json.specs.Told.{cancels, instant_at, is_slow};
+ghost use Rattle.rec_view_json.specs.Told.{cancels, finishes_run, instant_at, is_slow, starts_run};
 ghost use Rattle.rec_view_json.specs.Views.{counts_value, event_if, history_of, script_value};
 ghost use Rattle.rec_view_json.specs.Views.{slice_value, some_values, test_value, view_value};
 
 use crate::counts::with_counts;
 use crate::lists::{with_list, with_some};
-use crate::marks::{CancelWriter, SlowWriter};
+use crate::marks::Mark;
 use crate::positions::{instant_at, last_instant};
 use crate::scripts::ScriptWriter;
 use crate::slices::SliceWriter;
@@ -135,9 +135,11 @@ fn write_object<R: Form>(
     let object = ObjectWriter::begin(alloc, text);
     let object = with_ends(object, alloc, text, events, view)?;
     let object = with_pauses(object, alloc, text, events, gaps)?;
-    let object = object.field(text, "run", run);
+    let object = with_run(object, alloc, text, run, events)?;
     let object = with_scripts(object, alloc, text, events, view, gaps, instants)?;
-    let object = with_some(object, alloc, text, "slow", &SlowWriter, events)?;
+    let starts = "setup-script-started";
+    let object = with_some(object, alloc, text, starts, &Mark::ScriptStart, events)?;
+    let object = with_some(object, alloc, text, "slow", &Mark::Slow, events)?;
     let object = with_tests(object, alloc, text, events, view, gaps, instants)?;
     object.end(text)
 }
@@ -162,7 +164,7 @@ fn with_ends(
     let begin = instant_at(events, 0);
     let end = last_instant(events);
     let object = object.optional(text, "begin", &begin);
-    let object = with_some(object, alloc, text, "cancelled", &CancelWriter, events)?;
+    let object = with_some(object, alloc, text, "cancelled", &Mark::Cancelled, events)?;
     let object = with_counts(object, alloc, text, &view.counts, view.unnamed)?;
     Ok(object.optional(text, "end", &end))
 }
@@ -183,6 +185,32 @@ fn with_pauses(
     let pauses = gaps.pauses(alloc)?;
     let writer = SliceWriter { events };
     with_list(object, alloc, text, "pauses", &writer, pauses.as_slice())
+}
+
+/// Writes what is said of a run, and the events with which it finishes and starts.
+fn with_run<R: Form>(
+    object: ObjectWriter,
+    alloc: Global,
+    text: &mut JsonText,
+    run: &R,
+    events: &[TestEventSummary<RecordingSpec>],
+) -> Result<ObjectWriter, AllocError>
+    ensures { IfOk result (λ w. Writes object text.old w text.new
+        (field (codes "run") (R.value_of run.now)
+        ∷ field (codes "run-finished") (some_values (event_if finishes_run) events.now)
+        ∷ field (codes "run-started") (some_values (event_if starts_run) events.now) ∷ [])
+        ⊤) }
+{
+    let object = object.field(text, "run", run);
+    let object = with_some(
+        object,
+        alloc,
+        text,
+        "run-finished",
+        &Mark::RunFinish,
+        events,
+    )?;
+    with_some(object, alloc, text, "run-started", &Mark::RunStart, events)
 }
 
 /// Writes the setup scripts of a run.

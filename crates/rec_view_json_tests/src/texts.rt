@@ -68,6 +68,16 @@ fn none() -> &'static str {
     r#""failed":0,"flaky":0,"not-started":0,"passed":0,"skipped":0"#
 }
 
+/// What a view says of a run of which `7` is said, and whose log has no start and no end of it.
+fn run() -> &'static str {
+    r#""run":7,"run-finished":[],"run-started":[]"#
+}
+
+/// What a view says of a run without setup scripts.
+fn scripts() -> &'static str {
+    r#""scripts":[],"setup-script-started":[]"#
+}
+
 /// The text that a name stands for; any other text stands for itself.
 fn named(piece: &str) -> &str {
     if piece == "stats" {
@@ -86,6 +96,10 @@ fn named(piece: &str) -> &str {
         script()
     } else if piece == "none" {
         none()
+    } else if piece == "run" {
+        run()
+    } else if piece == "scripts" {
+        scripts()
     } else {
         piece
     }

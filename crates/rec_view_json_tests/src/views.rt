@@ -76,7 +76,7 @@ const ATTEMPTS: &[Case] = &[
         concat!(
             r#"{"begin":$1$,"cancelled":[],"#,
             r#""counts":{"failed":0,"flaky":1,"not-started":0,"passed":0,"skipped":0,"#,
-            r#""unfinished":0,"unnamed":0},"end":$6$,"pauses":[],"run":7,"scripts":[],"#,
+            r#""unfinished":0,"unnamed":0},"end":$6$,"pauses":[],$run$,$scripts$,"#,
             r#""slow":[{"elapsed":{"nanos":0,"secs":1},"kind":"test-slow","#,
             r#""retry-data":{"attempt":1,"total-attempts":2},"#,
             r#""slow-elapsed":{"nanos":0,"secs":9},$test$,"timestamp":$2$,"#,
@@ -98,7 +98,7 @@ const ATTEMPTS: &[Case] = &[
         concat!(
             r#"{"begin":$1$,"cancelled":[],"#,
             r#""counts":{"failed":1,"flaky":0,"not-started":0,"passed":0,"skipped":0,"#,
-            r#""unfinished":0,"unnamed":0},"end":$1$,"pauses":[],"run":7,"scripts":[],"slow":[],"#,
+            r#""unfinished":0,"unnamed":0},"end":$1$,"pauses":[],$run$,$scripts$,"slow":[],"#,
             r#""tests":[{"attempts":[],"binary-id":"b","stress-index":{"current":0},"#,
             r#""test-name":"a","verdict":"failed"}]}"#
         ),
@@ -120,7 +120,7 @@ const PAUSES: &[Case] = &[
         ],
         concat!(
             r#"{"begin":$1$,"cancelled":[],"counts":{$none$,"unfinished":1,"unnamed":0},"#,
-            r#""end":$6$,"pauses":[[$2$,$4$],[$6$,$6$]],"run":7,"scripts":[],"slow":[],"#,
+            r#""end":$6$,"pauses":[[$2$,$4$],[$6$,$6$]],$run$,$scripts$,"slow":[],"#,
             r#""tests":[{"attempts":[{"active":3000000,"slices":[[$1$,$2$],[$4$,$6$]],"slot":0,"#,
             r#""started":$1$}],"#,
             r#""binary-id":"b","test-name":"a","verdict":"unfinished"}]}"#
@@ -142,7 +142,7 @@ const PAUSES: &[Case] = &[
         concat!(
             r#"{"begin":$1$,"cancelled":[],"#,
             r#""counts":{"failed":0,"flaky":0,"not-started":0,"passed":1,"skipped":0,"#,
-            r#""unfinished":0,"unnamed":0},"end":$3$,"pauses":[],"run":7,"scripts":[],"slow":[],"#,
+            r#""unfinished":0,"unnamed":0},"end":$3$,"pauses":[],$run$,$scripts$,"slow":[],"#,
             r#""tests":[{"attempts":[{"active":2000000,"ended":$3$,"slices":[[$1$,$3$]],"slot":0,"#,
             r#""started":$1$,"#,
             r#""status":$second$}],"binary-id":"b","test-name":"a","verdict":"passed"}]}"#
@@ -165,7 +165,7 @@ const PAUSES: &[Case] = &[
         concat!(
             r#"{"begin":$1$,"cancelled":[],"#,
             r#""counts":{"failed":1,"flaky":0,"not-started":0,"passed":0,"skipped":0,"#,
-            r#""unfinished":0,"unnamed":0},"end":$4$,"pauses":[[$1$,$4$]],"run":7,"scripts":[],"slow":[],"#,
+            r#""unfinished":0,"unnamed":0},"end":$4$,"pauses":[[$1$,$4$]],$run$,$scripts$,"slow":[],"#,
             r#""tests":[{"attempts":[{"active":0,"ended":$3$,"slices":[[$2$,$2$],[$3$,$3$]],"slot":0,"#,
             r#""started":$2$,"status":$first$}],"#,
             r#""binary-id":"b","test-name":"a","verdict":"failed"}]}"#
@@ -183,7 +183,7 @@ const PAUSES: &[Case] = &[
         ],
         concat!(
             r#"{"begin":$1$,"cancelled":[],"counts":{$none$,"unfinished":1,"unnamed":0},"#,
-            r#""end":$6$,"pauses":[],"run":7,"scripts":[],"slow":[],"#,
+            r#""end":$6$,"pauses":[],$run$,$scripts$,"slow":[],"#,
             r#""tests":[{"attempts":[{"slices":[[$1$,$6$]],"slot":0,"started":$1$}],"#,
             r#""binary-id":"b","test-name":"a","verdict":"unfinished"}]}"#
         ),
@@ -196,7 +196,7 @@ const OTHERS: &[Case] = &[
     (
         &[],
         concat!(
-            r#"{"cancelled":[],"counts":{$none$,"unfinished":0,"unnamed":0},"pauses":[],"run":7,"scripts":[],"#,
+            r#"{"cancelled":[],"counts":{$none$,"unfinished":0,"unnamed":0},"pauses":[],$run$,$scripts$,"#,
             r#""slow":[],"tests":[]}"#
         ),
     ),
@@ -227,13 +227,41 @@ const OTHERS: &[Case] = &[
             r#""kind":"run-begin-cancel","reason":"interrupt","running":0,"#,
             r#""setup-scripts-running":0,"timestamp":$1$}],"#,
             r#""counts":{"failed":0,"flaky":0,"not-started":1,"passed":0,"skipped":1,"#,
-            r#""unfinished":0,"unnamed":2},"end":$4$,"pauses":[],"run":7,"scripts":[],"#,
+            r#""unfinished":0,"unnamed":2},"end":$4$,"pauses":[],"run":7,"#,
+            r#""run-finished":[{"elapsed":{"nanos":0,"secs":1},"kind":"run-finished","#,
+            r#""outstanding-not-seen":{"not-seen":[{"binary-id":"b","test-name":"c"}],"#,
+            r#""total-not-seen":3},"run-elapsed":{"nanos":0,"secs":3},"#,
+            r#""run-id":"550e8400-e29b-41d4-a716-446655440000","run-stats":{"single":$stats$},"#,
+            r#""start-time":$1$,"timestamp":$4$}],"run-started":[],$scripts$,"#,
             r#""slow":[{"args":[],"elapsed":{"nanos":0,"secs":1},"kind":"setup-script-slow","#,
             r#""program":"sh","script-id":"s","slow-elapsed":{"nanos":0,"secs":9},"#,
             r#""timestamp":$2$,"will-terminate":true}],"#,
             r#""tests":[{"attempts":[],"binary-id":"b","reason":"ignored","#,
             r#""stress-index":{"current":1,"total":2},"test-name":"a","verdict":"skipped"},"#,
             r#"{"attempts":[],"binary-id":"b","test-name":"c","verdict":"not-started"}]}"#
+        ),
+    ),
+    // started twice, and not finished
+    (
+        &[
+            concat!(
+                r#"1 "kind":"run-started","run-id":"550e8400-e29b-41d4-a716-446655440000","#,
+                r#""profile-name":"default","cli-args":["cargo","nextest","run"]"#
+            ),
+            concat!(
+                r#"2 "kind":"run-started","run-id":"550e8400-e29b-41d4-a716-446655440000","#,
+                r#""profile-name":"ci","cli-args":[]"#
+            ),
+        ],
+        concat!(
+            r#"{"begin":$1$,"cancelled":[],"counts":{$none$,"unfinished":0,"unnamed":0},"#,
+            r#""end":$2$,"pauses":[],"run":7,"run-finished":[],"#,
+            r#""run-started":[{"cli-args":["cargo","nextest","run"],"#,
+            r#""elapsed":{"nanos":0,"secs":1},"kind":"run-started","profile-name":"default","#,
+            r#""run-id":"550e8400-e29b-41d4-a716-446655440000","timestamp":$1$},"#,
+            r#"{"cli-args":[],"elapsed":{"nanos":0,"secs":1},"kind":"run-started","#,
+            r#""profile-name":"ci","run-id":"550e8400-e29b-41d4-a716-446655440000","#,
+            r#""timestamp":$2$}],$scripts$,"slow":[],"tests":[]}"#
         ),
     ),
 ];
@@ -255,16 +283,22 @@ const SCRIPTS: &[Case] = &[
             ),
             concat!(
                 r#"6 "kind":"setup-script-started","index":1,"total":2,"script-id":"t","#,
-                r#""program":"sh","args":[],"no-capture":false"#
+                r#""program":"sh","args":["-c","start"],"no-capture":false"#
             ),
         ],
         concat!(
             r#"{"begin":$1$,"cancelled":[],"counts":{$none$,"unfinished":0,"unnamed":0},"#,
-            r#""end":$6$,"pauses":[[$2$,$4$]],"run":7,"#,
+            r#""end":$6$,"pauses":[[$2$,$4$]],$run$,"#,
             r#""scripts":[{"active":2000000,"ended":$5$,"index":0,"script-id":"s","#,
             r#""slices":[[$1$,$2$],[$4$,$5$]],"started":$1$,"status":$script$,"#,
             r#""stress-index":{"current":0}},"#,
             r#"{"active":0,"index":1,"script-id":"t","slices":[[$6$,$6$]],"started":$6$}],"#,
+            r#""setup-script-started":[{"args":[],"elapsed":{"nanos":0,"secs":1},"index":0,"#,
+            r#""kind":"setup-script-started","no-capture":false,"program":"sh","#,
+            r#""script-id":"s","stress-index":{"current":0},"timestamp":$1$,"total":2},"#,
+            r#"{"args":["-c","start"],"elapsed":{"nanos":0,"secs":1},"index":1,"#,
+            r#""kind":"setup-script-started","no-capture":false,"program":"sh","#,
+            r#""script-id":"t","timestamp":$6$,"total":2}],"#,
             r#""slow":[],"tests":[]}"#
         ),
     ),

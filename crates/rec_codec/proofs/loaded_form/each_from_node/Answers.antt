@@ -54,7 +54,8 @@ returns-in_err-item g c =
     let here : drop c.loop-node.node-index nodes ≡ node ∷ rest =
     drop_more nodes c.loop-node.node-index node c.loop-node-test.true
     ∙ ap (λ x. x ∷ rest) (sym c.node-item.is) in
-    let p = err_from_is_err_and c.from_residual.result c.from_residual.ensures.1 in
+    let p = err_from_is_err_and c.from_residual-in_err-item.result
+    c.from_residual-in_err-item.ensures.1 in
     rw (p.1, p.2, ← c.in-Some.ensures, c.loop-node.invariant, here)
     (each_refused g.T.LoadedForm.form_of c.loop-node.items.items (view node) (items_view rest) _
     c.in_err-item.ensures.read)

@@ -7,12 +7,15 @@ use Rattle.rec_packing.specs.Packing.{Makes, MakesNone}
 pub returns-in_err-made-clause-err : goal.returns-in_err-made-clause-err
 returns-in_err-made-clause-err g c =
     let files = g.D.Disk.files in
+    let faults = g.D.Disk.faults in
     let none : IfErr c.from_residual-in_err-made.result (MakesNone
-    (files c.read_manifest.new.disk) c.args.run_dir.now) = search rules in
+    (files c.read_manifest.new.disk) c.args.run_dir.now (faults c.read_manifest.new.disk)
+    (faults c.make-made.new.disk)) = search rules in
     unmade g.S.Source.left g.S.Source.faults c.args.limit c.args.closing.now
     c.closed_run-run.new.closing c.args.run_dir.now c.args.path.now (files c.args.disk.now)
     (files c.read_manifest.new.disk) (files c.make-made.new.disk) c.in_ok-manifest.manifest
-    c.in_ok-manifest.ensures.ok _ _ _ c.read_manifest.ensures.same none
+    c.in_ok-manifest.ensures.ok _ _ _ _ c.read_manifest.ensures.same
+    c.read_manifest.ensures.later none
 
 pub returns-clause-ok : goal.returns-clause-ok
 returns-clause-ok g c =

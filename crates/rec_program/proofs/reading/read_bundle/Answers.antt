@@ -19,7 +19,7 @@ returns-clause-ok g c =
     opened_shows (g.P.BundleText.prints c.args.printer.now)
     settings.read_limit g.S.Source.left g.S.Source.faults settings.session_limit c.args.source.now
     c.open_bundle.new.source [] c.in_ok-bundle.bundle c.in_ok-bundle.ensures.ok
-    c.text-result.result c.text-result.ensures
+    c.text.result c.text.ensures
 
 pub returns-clause-err : goal.returns-clause-err
 returns-clause-err g c =
@@ -27,4 +27,4 @@ returns-clause-err g c =
     opened_withholds (g.P.BundleText.prints c.args.printer.now)
     settings.read_limit g.S.Source.left g.S.Source.faults settings.session_limit c.args.source.now
     c.open_bundle.new.source [] c.in_ok-bundle.bundle c.in_ok-bundle.ensures.ok
-    c.text-result.result c.text-result.ensures
+    c.text.result c.text.ensures

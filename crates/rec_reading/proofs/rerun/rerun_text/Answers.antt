@@ -13,6 +13,6 @@ returns c = λ es is.
         info,
         selected.2,
         subst (λ (tests : TestListSummary). PrintsPlan info tests c.in_ok-plan_text.field-0.items)
-            selected.3 c.in_ok-plan_text.ensures,
+            selected.3 (c.in_ok-plan_text.ensures selected.2.apart),
       ),
     )
