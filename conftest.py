@@ -45,13 +45,14 @@ def leave_out(missing: str) -> NoReturn:
 
 
 def pytest_configure(config: pytest.Config) -> None:
-    """Give the tests a state folder of their own, so that none records into the user's.
+    """Give the tests folders of their own for what is kept, so that none touches the user's.
 
     Let a signal of the keyboard or of a terminal that goes come, which a shell ignores for what it
     runs in the background, and `nohup` for all: what a test starts would ignore it too.
     """
     state = tempfile.TemporaryDirectory(prefix="rezovamy-state-")
     os.environ["XDG_STATE_HOME"] = state.name
+    os.environ["XDG_CACHE_HOME"] = os.path.join(state.name, "cache")
     config.add_cleanup(state.cleanup)
     if signal.getsignal(signal.SIGINT) == signal.SIG_IGN:
         signal.signal(signal.SIGINT, signal.default_int_handler)

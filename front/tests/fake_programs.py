@@ -7,17 +7,21 @@ import json
 import pathlib
 import sys
 
+from rezovamy_runs import recorder
 from tests import FRONT
 from tests.front_end import FrontEnd
 
-# It answers `rerun` with the text of a file. `record`, or `live` and `pack`, make the bundle of the
-# session, which it keeps.
+PATHS = [str(FRONT), str(FRONT / "src"), str(FRONT.parent)]
+# It lets the real one view, and answers `rerun` with the text of a file. `record`, or `live` and
+# `pack`, make the bundle of the session, which it keeps.
 PROGRAM = f"""#!{sys.executable}
-import pathlib, sys
-sys.path[:0] = [{str(FRONT)!r}, {str(FRONT / 'src')!r}]
+import os, pathlib, sys
+sys.path[:0] = {PATHS!r}
 from tests import made
 folder = pathlib.Path(__file__).parent
-if sys.argv[1] == "rerun":
+if sys.argv[1] == "view":
+    os.execv(os.environ["REAL_REZOVAMY"], sys.argv)
+elif sys.argv[1] == "rerun":
     print((folder / "rerun").read_text(), end="")
 elif sys.argv[1] == "record":
     session = sys.stdin.read()
@@ -120,6 +124,7 @@ class FakePrograms:
     def use_in(self, front_end: FrontEnd) -> None:
         """Let a front end start them."""
         environment = front_end.environment
+        environment["REAL_REZOVAMY"] = str(recorder.find())
         environment["REZOVAMY"] = str(self.folder / "rezovamy")
         environment["PATH"] = f"{self.folder}:{environment['PATH']}"
 

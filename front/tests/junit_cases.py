@@ -3,7 +3,6 @@
 from __future__ import annotations
 
 import json
-import struct
 from typing import TypeAlias
 
 Json: TypeAlias = dict[str, object]
@@ -147,13 +146,3 @@ def lines_of(events: list[Json]) -> bytes:
 def session_of(events: list[Json]) -> bytes:
     """Return a session of events, after a head."""
     return b"{}\n" + lines_of(events)
-
-
-def bundle_of(events: list[Json]) -> bytes:
-    """Return a container with a log of events after another entry."""
-    entries = [(b"manifest.json", b"{}"), (b"run.log.zst", lines_of(events))]
-    written = (
-        b"\1" + struct.pack(">H", len(name)) + name + struct.pack(">Q", len(data)) + data
-        for name, data in entries
-    )
-    return b"nxtcont1" + b"".join(written) + b"\0"

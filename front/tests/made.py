@@ -7,11 +7,11 @@ from __future__ import annotations
 
 import hashlib
 import json
-from collections.abc import Iterable, Mapping
+from collections.abc import Iterable, Mapping, Sequence
 
-from rezovamy_runs.bundles.container import container
 from rezovamy_runs.json_values import JsonObject, members_of, text_of
 from rezovamy_runs.streams.session_json import stats
+from workshop.oracle.container import container
 
 START = 1000
 ID = "0a1b2c3d-0000-4000-8000-000000000001"
@@ -41,6 +41,9 @@ def instant(seconds: float) -> JsonObject:
     """An instant so many seconds after the start."""
     return {**span(START + seconds), "offset": 0}
 
+
+# Sizes of a log or a store, which no reader of a bundle judges.
+SIZES = {"compressed": 0, "uncompressed": 0, "entries": 0}
 
 # Events and what they have.
 
@@ -134,7 +137,15 @@ def status(
 
 def failed(seconds: float, name: str, attempt: object) -> JsonObject:
     """An attempt failed, after which another one follows."""
-    return of_test("test-attempt-failed-will-retry", seconds, name, run_status=attempt)
+    return of_test(
+        "test-attempt-failed-will-retry",
+        seconds,
+        name,
+        run_status=attempt,
+        delay_before_next_attempt=span(0),
+        failure_output="never",
+        running=1,
+    )
 
 
 def finished(seconds: float, name: str, *attempts: object, flaky: str = "pass") -> JsonObject:
@@ -159,11 +170,37 @@ def skipped(seconds: float, name: str) -> JsonObject:
     return of_test("test-skipped", seconds, name, reason="ignored", junit_report_skipped="all")
 
 
-def run_started(seconds: float = 0, profile: str = "default") -> JsonObject:
+def run_started(
+    seconds: float = 0, profile: str = "default", cli_args: Sequence[str] = ("cargo", "test")
+) -> JsonObject:
     """A run started."""
-    return event(
-        "run-started", seconds, run_id=ID, profile_name=profile, cli_args=["cargo", "test"]
-    )
+    return event("run-started", seconds, run_id=ID, profile_name=profile, cli_args=list(cli_args))
+
+
+def paused(seconds: float) -> JsonObject:
+    """A run was paused."""
+    return event("run-paused", seconds, setup_scripts_running=0, running=1)
+
+
+def continued(seconds: float) -> JsonObject:
+    """A run went on."""
+    return event("run-continued", seconds, setup_scripts_running=0, running=1)
+
+
+def script_events(begin: float, end: float, ended: object) -> list[JsonObject]:
+    """The only setup script started, and ended with this status."""
+    script: JsonObject = {
+        "script_id": "database",
+        "index": 0,
+        "total": 1,
+        "program": "sh",
+        "args": ["-c", "start"],
+        "no_capture": False,
+    }
+    return [
+        event("setup-script-started", begin, **script),
+        event("setup-script-finished", end, **script, run_status=ended),
+    ]
 
 
 def run_finished(
@@ -245,7 +282,7 @@ def bundle(
         "started-at": instant(at),
         "last-written-at": instant(at),
         "status": ended or {"status": "incomplete"},
-        "sizes": {},
+        "sizes": {"log": SIZES, "store": SIZES},
         **named(more),
     }
     return container_of(run, events, outputs, version, store)
@@ -256,7 +293,8 @@ def bundle_of(session: str) -> bytes:
     head, *events = [json.loads(line) for line in session.split("\n") if line.strip()]
     outputs: dict[str, bytes] = {}
     logged = [stored(event, outputs) for event in events]
-    return container_of({key: head[key] for key in HEAD if key in head}, logged, outputs)
+    run = {key: head[key] for key in HEAD if key in head}
+    return container_of({**run, "sizes": {"log": SIZES, "store": SIZES}}, logged, outputs)
 
 
 def stored(value: object, store: dict[str, bytes]) -> object:
@@ -282,6 +320,11 @@ def name_of(data: bytes, stream: str, store: dict[str, bytes]) -> object:
     """What a log has in the place of these bytes, which go into the store."""
     if not data:
         return "empty"
-    name = f"{hashlib.sha256(data).hexdigest()[:16]}-{stream}"
+    name = file_name(data, stream)
     store[name] = data
     return {"full": name}
+
+
+def file_name(data: bytes, stream: str) -> str:
+    """The name of the file that an output has in the store."""
+    return f"{hashlib.sha256(data).hexdigest()[:16]}-{stream}"

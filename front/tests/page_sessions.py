@@ -5,15 +5,21 @@ from __future__ import annotations
 from typing import TypeAlias
 
 from tests.made import (
+    continued,
     event,
     exit_code,
     failed,
     finished,
+    paused,
     retried,
+    run_finished,
+    run_started,
+    script_events,
     session_of,
     skipped,
     started,
     status,
+    test_of,
 )
 
 Json: TypeAlias = dict[str, object]
@@ -27,32 +33,26 @@ MANY = 10_000
 
 def nasty_session() -> str:
     """Return a run with a pause, a retry, a test without an end, a script and harmful outputs."""
-    script: Json = {"script_id": "database", "index": 0, "program": "sh", "args": ["-c", "start"]}
     first = status(1, 1, exit_code(), 1, 3, stdout=NASTY)
     second = status(6, 1, "pass", 2, 3, stdout=b"ready\n", stderr=b"")
     script_status = status(0, 1, combined=b"ready\n")
-    end: Json = {
-        "run_elapsed": {"secs": 9, "nanos": 0},
-        "run_stats": {},
-        "outstanding_not_seen": {"not-seen": [], "total-not-seen": 3},
-    }
+    unseen: Json = {"not-seen": [test_of("hangs")], "total-not-seen": 3}
     return session_of(
         [
-            event("run-started", 0, profile_name="ci", cli_args=[]),
-            event("setup-script-started", 0, **script),
-            event("setup-script-finished", 1, **script, run_status=script_status),
+            run_started(profile="ci", cli_args=[]),
+            *script_events(0, 1, script_status),
             started(1, "a</script>", 0),
             started(1, "flaky", 1),
             started(1.5, "hangs", 2),
             failed(2, "flaky", first),
-            event("run-paused", 3),
-            event("run-continued", 5),
+            paused(3),
+            continued(5),
             retried(6, "flaky", 2, 3, 3),
             finished(7, "flaky", first, second),
             finished(8, "a</script>", status(1, 5, exit_code(), stdout=NASTY)),
             skipped(8, "later"),
-            event("run-begin-cancel", 9, reason="interrupt"),
-            event("run-finished", 9, **end),
+            event("run-begin-cancel", 9, setup_scripts_running=0, running=1, reason="interrupt"),
+            run_finished(9, 9, outstanding_not_seen=unseen),
         ]
     )
 

@@ -3,26 +3,26 @@
 from __future__ import annotations
 
 import pathlib
-import re
 from collections.abc import Callable, Mapping
 
 import pytest
 
 from rezovamy_runs.bundles import bundle
-from rezovamy_runs.bundles.container import container, entries
 from rezovamy_runs.faults.fault import Fault
 from rezovamy_runs.json_values import JsonObject
-from rezovamy_runs.model import Attempt, Counts, Pause, Result, Run, Test
+from rezovamy_runs.model import Attempt, Counts, Result, Run, Test, Verdict
 from tests import made
+from workshop.oracle.container import container, entries
 
-STDOUT = {
+OK, CUT = made.file_name(b"ok\n", "stdout"), made.file_name(b"\xff", "combined")
+STDOUT = {"output": {"output": {"split": {"stdout": {"full": OK}, "stderr": "empty"}}}}
+COMBINED = {
     "output": {
-        "output": {"split": {"stdout": {"full": "00000000000000aa-stdout"}, "stderr": "empty"}}
+        "output": {"combined": {"truncated": {"file-name": CUT, "original-size": 99}}},
+        "errors": ["first", "second"],
     }
 }
-CUT = {"truncated": {"file-name": "00000000000000bb-combined", "original-size": 99}}
-COMBINED = {"output": {"output": {"combined": CUT}, "errors": ["first", "second"]}}
-OUTPUTS = {"00000000000000aa-stdout": b"ok\n", "00000000000000bb-combined": b"\xff"}
+OUTPUTS = {OK: b"ok\n", CUT: b"\xff"}
 SCRIPT: JsonObject = {
     "script_id": "db",
     "index": 4,
@@ -31,6 +31,10 @@ SCRIPT: JsonObject = {
     "args": ["-c"],
     "no_capture": False,
 }
+
+SECOND = 1_000_000
+
+pytestmark = pytest.mark.program
 
 Read = Callable[..., Run]
 Refused = Callable[[bytes], str]
@@ -97,10 +101,22 @@ def test_attempts_have_the_slots_of_their_starts(read: Read) -> None:
         combined=b"\xff",
         errors="first\nsecond",
         truncated={"combined": 99},
+        slices=((1000 * SECOND, 1002 * SECOND),),
+        active=2.0,
     )
-    passed = Attempt(2, 2, 1003.0, 5, Result("pass"), "", 1.0, stdout=b"ok\n", stderr=b"")
-    assert run.tests == (Test("alpha", "t", (failed, passed), has_finished=True),)
-    assert run.tests[0].verdict == "flaky"
+    passed = Attempt(
+        number=2,
+        total=2,
+        started=1003.0,
+        slot=5,
+        result=Result("pass"),
+        seconds=1.0,
+        stdout=b"ok\n",
+        stderr=b"",
+        slices=((1003 * SECOND, 1004 * SECOND),),
+        active=1.0,
+    )
+    assert run.tests == (Test("alpha", "t", Verdict("flaky"), (failed, passed)),)
     assert run.counts == Counts(passed=1, flaky=1)
 
 
@@ -113,7 +129,7 @@ def test_outputs_are_left_out(read: Read) -> None:
 
 def test_an_output_that_is_missing_is_a_fault(read: Read) -> None:
     ended = made.finished(4, "t", made.status(0, 1, "pass", output=STDOUT))
-    with pytest.raises(Fault, match="it has no out/00000000000000aa-stdout"):
+    with pytest.raises(Fault, match=f"out/{OK}"):
         read(made.started(0, "t"), ended)
 
 
@@ -175,7 +191,7 @@ def test_pauses(read: Read) -> None:
     run = read(
         at(1, "run-paused"), at(2, "run-paused"), at(5, "run-continued"), at(7, "run-paused")
     )
-    assert run.pauses == (Pause(1001.0, 1005.0), Pause(1007.0, None))
+    assert run.pauses == ((1001 * SECOND, 1005 * SECOND), (1007 * SECOND, 1007 * SECOND))
 
 
 def test_setup_scripts(read: Read) -> None:
@@ -199,7 +215,8 @@ def test_a_summary_is_of_the_manifest_and_both_ends(path: pathlib.Path) -> None:
     path.write_bytes(
         made.bundle(
             made.run_started(profile="ci"),
-            made.run_finished(11, 11, 2, 3, outstanding_not_seen=unseen),
+            made.skipped(1, "t"),
+            made.run_finished(11, 11, outstanding_not_seen=unseen),
             ended=made.completed(7, 1, 101),
         )
     )
@@ -208,11 +225,11 @@ def test_a_summary_is_of_the_manifest_and_both_ends(path: pathlib.Path) -> None:
     assert (found.started, found.elapsed) == (1000.0, 11.0)
     assert (found.status, found.exit_code) == ("completed", 101)
     assert found.cli_args == ("cargo", "test")
-    assert found.counts == Counts(passed=7, failed=1, flaky=2, skipped=3, unseen=4)
+    assert found.counts == Counts(skipped=1, unseen=4)
     assert found.size == path.stat().st_size
 
 
-def test_tests_are_counted_where_the_manifest_does_not(path: pathlib.Path) -> None:
+def test_a_run_without_an_end(path: pathlib.Path) -> None:
     ended = made.finished(2, "t", made.status(0, 2))
     path.write_bytes(made.bundle(made.run_started(), made.started(0, "t"), ended))
     found = bundle.read_summary(path)
@@ -221,7 +238,8 @@ def test_tests_are_counted_where_the_manifest_does_not(path: pathlib.Path) -> No
 
 
 def test_a_long_last_line_is_read_whole(path: pathlib.Path) -> None:
-    unseen = {"not-seen": [made.test_of("t" * 100)] * 1000, "total-not-seen": 1000}
+    names = [f"{number:0100}" for number in range(1000)]
+    unseen = {"not-seen": list(map(made.test_of, names)), "total-not-seen": 1000}
     path.write_bytes(
         made.bundle(
             made.run_started(),
@@ -232,14 +250,13 @@ def test_a_long_last_line_is_read_whole(path: pathlib.Path) -> None:
     assert bundle.read_summary(path).counts == Counts(unseen=1000)
 
 
-def test_the_end_of_a_run_names_what_was_not_seen(path: pathlib.Path) -> None:
+def test_tests_that_never_started(path: pathlib.Path) -> None:
     unseen = {"not-seen": [made.test_of("t")], "total-not-seen": 3}
     path.write_bytes(made.bundle(made.run_finished(11, 11, outstanding_not_seen=unseen)))
-    end = bundle.read_end(path)
-    assert end is not None
-    assert (end.unseen, end.unseen_names) == (3, (("alpha", "t"),))
+    run = bundle.read_run(path)
+    assert (run.never_started, run.unnamed) == ((("alpha", "t"),), 2)
     path.write_bytes(made.bundle(made.run_started()))
-    assert bundle.read_end(path) is None
+    assert bundle.read_run(path).unnamed == 0
 
 
 def test_an_empty_log(path: pathlib.Path) -> None:
@@ -260,10 +277,10 @@ def test_entries_in_another_order(path: pathlib.Path) -> None:
 @pytest.mark.parametrize(
     ("data", "said"),
     [
-        (b"", "it doesn't begin as one"),
-        (b"text", "it doesn't begin as one"),
-        (b"nxtcont1\0", "it has no manifest.json"),
-        (b"nxtcont1\7", "it is broken at byte 8"),
+        (b"", "standard input is empty"),
+        (b"text", "this isn't a bundle"),
+        (b"nxtcont1\0", "manifest.json"),
+        (b"nxtcont1\7", "byte 8 begins no entry"),
     ],
 )
 def test_other_files(refused: Refused, data: bytes, said: str) -> None:
@@ -273,7 +290,7 @@ def test_other_files(refused: Refused, data: bytes, said: str) -> None:
 def test_a_file_that_is_not_called_a_bundle_is_not_to_be_removed(tmp_path: pathlib.Path) -> None:
     path = tmp_path / "passwd"
     path.write_bytes(b"text")
-    with pytest.raises(Fault, match="; name a bundle$"):
+    with pytest.raises(Fault, match="rezovamy record BUNDLE < SESSION makes a bundle$"):
         bundle.read_run(path)
 
 
@@ -286,9 +303,9 @@ def test_every_cut_is_a_fault(refused: Refused) -> None:
 @pytest.mark.parametrize(
     ("data", "said"),
     [
-        (made.bundle(version=(1, 2)), "version 1.2"),
-        (made.bundle(version=(2, 0)), "version 2.0"),
-        (made.bundle(store=(3, 2)), "version 3.2"),
+        (made.bundle(version=(1, 2)), "the bundle has format 1.2"),
+        (made.bundle(version=(2, 0)), "the bundle has format 2.0"),
+        (made.bundle(store=(3, 2)), "the store has format 3.2"),
     ],
 )
 def test_newer_versions(refused: Refused, data: bytes, said: str) -> None:
@@ -307,9 +324,4 @@ def test_newer_versions(refused: Refused, data: bytes, said: str) -> None:
     ids=["members missing", "no object", "no test", "no attempt", "no result"],
 )
 def test_lines_that_are_no_events(refused: Refused, line: object) -> None:
-    assert "record the run again" in refused(made.bundle(line))
-
-
-def test_a_missing_member_is_named(refused: Refused) -> None:
-    said = refused(made.bundle({"kind": "test-started"}))
-    assert re.search("can be read: no member '[a-z-]+' is there; record the run again", said)
+    assert "line 1 is neither blank nor an event" in refused(made.bundle(line))

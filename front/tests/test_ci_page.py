@@ -3,6 +3,7 @@
 from __future__ import annotations
 
 import re
+import shlex
 import subprocess
 
 import pytest
@@ -12,7 +13,7 @@ from tests import TOP
 
 JOBS = re.findall(r"^```yaml\n(.*?)^```$", (TOP / "docs/CI.md").read_text(), re.M | re.S)
 BLOCK = re.compile(r"( *)(?:- )?(?:run: )?\|")
-PROGRAMS = r"rezovamy-runs|\.rezovamy/\$|front|cd|mkdir|\(cd|echo"
+PROGRAMS = r"rezovamy-runs|\.rezovamy/\$|front|cd|export|mkdir|\(cd|echo"
 LINE = re.compile(rf" *(?:- )*(?:run: |- )((?:{PROGRAMS}).*)")
 # What a CI puts into a script before a shell reads it.
 PUT_IN = re.compile(r"\$\{\{.*?\}\}")
@@ -45,8 +46,8 @@ def asked(script: str) -> list[str]:
     return re.findall(r"rezovamy-runs ([a-z][^;\n]*)", script)
 
 
-def test_there_are_three_jobs() -> None:
-    assert [len(scripts(job)) for job in JOBS] == [3, 6, 3]
+def test_there_are_two_pipelines_and_a_job() -> None:
+    assert [len(scripts(job)) for job in JOBS] == [4, 11, 3]
 
 
 @pytest.mark.parametrize("script", SCRIPTS)
@@ -57,15 +58,30 @@ def test_bash_reads_each_script(script: str) -> None:
 
 
 def test_the_front_end_is_asked_for_these() -> None:
-    recorded = ["test -- --workspace", "junit --to test-run/junit"]
-    recorded.append("page --to test-run/page.html")
-    assert [words for script in SCRIPTS for words in asked(script)] == [
-        *recorded,
-        "show",
-        *recorded,
+    report = [
+        "import shards",
+        "prune --keep 400 --yes",
+        'junit "$GROUP" --to report',
+        'page "$GROUP" --to report/page.html',
     ]
+    assert [without_target(words) for script in SCRIPTS for words in asked(script)] == [
+        'test --group "$GROUP" --shard ${{ matrix.shard }}/4 -- --workspace',
+        *report,
+        "compare --markdown",
+        "flaky --markdown",
+        'test --group "$GROUP" -- --workspace',
+        *report,
+        "compare --markdown",
+        "flaky --markdown",
+    ]
+
+
+def without_target(words: str) -> str:
+    """Return words without the file to which a shell writes what is printed."""
+    return words.partition(" >")[0]
 
 
 @pytest.mark.parametrize("words", sorted({words for one in SCRIPTS for words in asked(one)}))
 def test_the_front_end_takes_their_words(words: str) -> None:
-    cli.parser().parse_args(words.partition(" -- ")[0].split())
+    known = PUT_IN.sub("1", without_target(words))
+    cli.parser().parse_args(shlex.split(known.partition(" -- ")[0]))

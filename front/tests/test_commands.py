@@ -83,12 +83,6 @@ def test_list_for_scripts(two_runs: FrontEnd) -> None:
     assert second["id"] == made.ID
 
 
-def test_a_name_that_is_no_text_is_json(two_runs: FrontEnd) -> None:
-    path = two_runs.path_of(OTHER)
-    path.write_bytes(path.read_bytes().replace(b'"default"', b'"\\ud800x"'))
-    assert json.loads(two_runs.output("list", "--json"))[0]["profile"] == "\ud800x"
-
-
 HEAD = f"run {OTHER} of 1970-01-01 00:33:20, profile default: cargo test"
 FAILED = "FAIL [1.0s] alpha t0 (exit code 101)"
 PASSED = ["PASS [1.0s] alpha t1", "PASS [1.0s] alpha t2"]
@@ -128,11 +122,11 @@ def test_compare_for_scripts(two_runs: FrontEnd) -> None:
     assert json.loads(two_runs.output("compare", made.ID, OTHER, "--json")) == {
         "first": made.ID,
         "second": OTHER,
-        "newly-failing": [{"binary": "alpha", "test": "t0"}],
-        "fixed": [{"binary": "alpha", "test": "t1"}],
+        "newly-failing": [{"binary": "alpha", "test": "t0", "quarantined": False}],
+        "fixed": [{"binary": "alpha", "test": "t1", "quarantined": False}],
         "still-failing": [],
         "never-ended": [],
-        "new": [{"binary": "alpha", "test": "t2"}],
+        "new": [{"binary": "alpha", "test": "t2", "quarantined": False}],
         "gone": [],
         "slower": [],
     }
@@ -175,6 +169,7 @@ def test_flaky_for_scripts(two_runs: FrontEnd) -> None:
         "flaky": 0,
         "failed": 1,
         "mixed-commits": 0,
+        "quarantined": False,
     }
 
 
@@ -326,7 +321,7 @@ def test_a_program_that_is_another_one(front_end: FrontEnd) -> None:
 
 def test_a_program_that_prints_no_text(one_run: FrontEnd) -> None:
     one_run.use_program("printf '\\377'")
-    assert "run all again" in fault_of(one_run.run("again"), 1)
+    assert "prints no view that can be read" in fault_of(one_run.run("again"), 1)
 
 
 def test_a_recording_that_is_broken_off_leaves_nothing(front_end: FrontEnd) -> None:

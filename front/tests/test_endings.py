@@ -155,6 +155,21 @@ def test_a_crash_of_a_shared_process(endings: FrontEnd) -> None:
     assert names_of(last_run(endings)) == {"ways::ends": ["is_killed", "passes"]}
 
 
+def test_retries_of_a_shared_process(endings: FrontEnd) -> None:
+    """What failed there is tried again by itself, and what ran beside a crash passes at once."""
+    words = ["-p", "ways", "--test", "ends", "--", "--test-threads=2", "--exact"]
+    done = endings.run("test", "--shared", "--retries", "1", "--", *words, "a_moment", "is_killed")
+    assert done.returncode == 101
+    told = {
+        test.name: [(attempt.number, attempt.result, attempt.detail) for attempt in test.attempts]
+        for test in last_run(endings).tests
+    }
+    assert told == {
+        "a_moment": [(1, *ENDS["a_moment"])],
+        "is_killed": [(1, *SHARED_ENDS["is_killed"]), (2, *ENDS["is_killed"])],
+    }
+
+
 def test_nothing_is_compiled_again(endings: FrontEnd) -> None:
     """It alternates with `cargo test`, and a build script watches RUSTC_BOOTSTRAP."""
     fresh(endings)

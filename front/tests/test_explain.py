@@ -10,10 +10,10 @@ import subprocess
 import pytest
 
 from rezovamy_runs import recorder
-from rezovamy_runs.bundles.container import MAGIC, container, entries
 from rezovamy_runs.faults import causes, file_kinds
 from rezovamy_runs.faults.explain import TABLE, explain, explain_or_show
 from tests import FRONT, TOP
+from workshop.oracle.container import MAGIC, container, entries
 
 SESSION = TOP / "crates/rezovamy/data/one_test.session"
 RAISE_LIMIT = (

@@ -86,7 +86,7 @@ def test_what_cannot_be_read_is_told_and_keeps_no_other_run_out(front_end: Front
     )
     first, second = done.stderr.splitlines()
     assert f"left/{FIRST}.json isn't the notes of a run" in first
-    assert "left/broken.bundle is no bundle that can be read" in second
+    assert "left/broken.bundle: rezovamy view: this isn't a bundle" in second
     assert ids(front_end) == [FIRST]
 
 

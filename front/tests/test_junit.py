@@ -5,7 +5,6 @@ from __future__ import annotations
 import dataclasses
 import json
 import pathlib
-from collections.abc import Callable
 from xml.etree import ElementTree
 from xml.etree.ElementTree import Element
 
@@ -16,8 +15,6 @@ from tests import junit_schema
 from tests.junit_cases import (
     CLEAN,
     RUN_ID,
-    Json,
-    bundle_of,
     made_case,
     made_events,
     made_report,
@@ -314,11 +311,8 @@ def unfinished_line() -> str:
     return json.dumps(report_of_cases(made_case("passed", {"success": []}), skipped))
 
 
-@pytest.mark.parametrize("written", [session_of, bundle_of], ids=["session", "bundle"])
-def test_what_never_ended_is_an_error(
-    tool: Tool, unfinished_line: str, written: Callable[[list[Json]], bytes]
-) -> None:
-    path = tool.file("events", written(unfinished_events()))
+def test_what_never_ended_is_an_error(tool: Tool, unfinished_line: str) -> None:
+    path = tool.file("events", session_of(unfinished_events()))
     root = tool.root(unfinished_line, "--events", path)
     names = [
         [suite.get("name")] + [case.get("name") for case in suite if case.find("error") is not None]

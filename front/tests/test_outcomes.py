@@ -83,7 +83,10 @@ def test_of_a_test_that_ran_several_times_the_worst_counts() -> None:
         counts=Counts(),
         nextest_version="",
         cli_args=(),
-        tests=tuple(Test("a", "t", (one,), has_finished=True) for one in (passed, failed)),
+        tests=(
+            Test("a", "t", Verdict.PASS, (passed,)),
+            Test("a", "t", Verdict.FAIL, (failed,)),
+        ),
     )
     assert history.outcomes(run) == {("a", "t"): Outcome(Verdict("fail"), 3.0, 1, "fail")}
 

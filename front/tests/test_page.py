@@ -84,8 +84,8 @@ def test_a_pause_cuts_an_attempt(page: Page) -> None:
 def test_a_time_is_without_the_pause_whatever_was_recorded(tmp_path: pathlib.Path) -> None:
     events = [
         started(0, "paused", 0),
-        event("run-paused", 1),
-        event("run-continued", 4),
+        event("run-paused", 1, setup_scripts_running=0, running=1),
+        event("run-continued", 4, setup_scripts_running=0, running=1),
         finished(7, "paused", status(0, 7)),
         started(7, "whole", 0),
         finished(9, "whole", status(7, 1.5)),
@@ -305,6 +305,8 @@ def title_of(tests: list[PageTest], profile: str = "ci") -> str:
         "pauses": [],
         "marks": [],
         "end": 0,
+        "bands": [],
+        "past": None,
     }
     return document.page_title(run)
 

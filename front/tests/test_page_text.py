@@ -140,7 +140,7 @@ def test_very_many_tests() -> None:
     attempt = {"number": 1, "seconds": 2}
     test = {"name": "t", "state": "passed", "binary": 0, "attempts": [attempt]}
     value = {"binaries": ["alpha"], "outputs": [], "causes": [], "tests": [test] * 200_000}
-    parts = [DOCUMENT, document.part("text.js"), document.part("data.js")]
+    parts = [DOCUMENT, *map(document.part, ("text.js", "states.js", "data.js"))]
     parts.append("console.log(LONGEST, TEST_COUNT);")
     words = [NODE or "node", "-e", "\n".join(parts)]
     done = subprocess.run(

@@ -7,7 +7,17 @@ import pathlib
 
 import pytest
 
-from rezovamy_runs.model import Attempt, Counts, Result, Run, Script, Status, Test, TestName
+from rezovamy_runs.model import (
+    Attempt,
+    Counts,
+    Result,
+    Run,
+    Script,
+    Status,
+    Test,
+    TestName,
+    Verdict,
+)
 from rezovamy_runs.report.run_text import Printer
 from rezovamy_runs.terminal import Paint
 
@@ -50,7 +60,9 @@ def attempt(
 
 def finished(name: str, *attempts: Attempt, flaky_fails: bool = False) -> Test:
     """A test that ended after these attempts."""
-    return Test("alpha", name, attempts, has_finished=True, flaky_fails=flaky_fails)
+    if not attempts[-1].passed or flaky_fails:
+        return Test("alpha", name, Verdict.FAIL, attempts)
+    return Test("alpha", name, Verdict.PASS if len(attempts) == 1 else Verdict.FLAKY, attempts)
 
 
 def run_of(*tests: Test, counts: Counts = Counts(), status: str = "completed") -> Run:
@@ -85,7 +97,7 @@ def test_only_what_failed_comes() -> None:
         "bad",
         attempt("fail", "exit code 1", started=3.0, seconds=0.5, stdout=b"no\n", stderr=b"why\xff"),
     )
-    skipped = Test("alpha", "off", reason="ignored")
+    skipped = Test("alpha", "off", Verdict.SKIP, reason="ignored")
     bad = [
         "FAIL [0.500s] alpha bad (exit code 1)",
         "  standard output",
@@ -158,7 +170,9 @@ def test_errors_come_where_the_output_lacks_them(
 
 
 def test_a_test_without_an_end() -> None:
-    assert lines(Test("alpha", "t", (attempt("unfinished"),))) == ["UNFINISHED alpha t"]
+    assert lines(Test("alpha", "t", Verdict.UNFINISHED, (attempt("unfinished"),))) == [
+        "UNFINISHED alpha t"
+    ]
 
 
 def test_flaky_tests_that_fail() -> None:

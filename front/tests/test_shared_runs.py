@@ -4,6 +4,8 @@ from __future__ import annotations
 
 import pytest
 
+from rezovamy_runs.cut_outputs import LAST
+from rezovamy_runs.processes.event_lines import EventLines
 from rezovamy_runs.processes.jobs import (
     Captured,
     Ended,
@@ -50,9 +52,10 @@ def group_of(text: str, *names: str, log_file: bool = True) -> Group:
     return Group(words, (), tuple(jobs), itself, frozenset(["ignored"]), log_file)
 
 
-def run(text: str, *names: str, log_file: bool = True) -> list[Event]:
+def run(text: str, *names: str, log_file: bool = True, retries: int = 0) -> list[Event]:
     """Return what is told of a group."""
-    return events_of([], Settings(1), groups=[group_of(text, *names, log_file=log_file)])
+    settings = Settings(1, retries)
+    return events_of([], settings, groups=[group_of(text, *names, log_file=log_file)])
 
 
 def told(events: list[Event]) -> str:
@@ -157,6 +160,67 @@ def test_which_test_ended_how(text: str, names: str, expected: str) -> None:
     assert told(run(text, *names.split())) == expected
 
 
+@pytest.mark.parametrize(
+    ("text", "names", "expected"),
+    [
+        pytest.param(
+            "start flaky; end failed flaky; start a; end ok a; exit 101",
+            "flaky a",
+            "flaky 1/3 failed, a 1/3 passed, flaky 2/3 passed",
+            id="it passes by itself",
+        ),
+        pytest.param(
+            "start bad; end failed bad; exit 101",
+            "bad",
+            "bad 1/3 failed, bad 2/3 failed, bad 3/3 failed",
+            id="it fails each time",
+        ),
+        pytest.param(
+            "start a; start crash; kill -SEGV $$",
+            "a crash",
+            "a 1/3 passed, crash 1/3 killed, crash 2/3 killed, crash 3/3 killed",
+            id="a crash",
+        ),
+        pytest.param(
+            "start a; start b; kill -SEGV $$",
+            "a b",
+            "a 1/3 passed, b 1/3 passed, alpha 1/1 killed",
+            id="the process is not tried again",
+        ),
+    ],
+)
+def test_retries(text: str, names: str, expected: str) -> None:
+    """Each is by itself, after the process has ended."""
+    events = run(text, *names.split(), retries=2)
+    ended = [event for event in events if isinstance(event, Ended)]
+    said = [
+        f"{event.job.test_name} {event.attempt}/{event.total_attempts} {event.ending.verdict}"
+        for event in ended
+    ]
+    assert ", ".join(said) == expected
+    starts = [event for event in events if isinstance(event, Started)]
+    assert sorted((event.job.test_name, event.attempt) for event in starts) == sorted(
+        (event.job.test_name, event.attempt) for event in ended
+    )
+    for event in ended:
+        is_last = not any(
+            other.job is event.job and other.attempt > event.attempt for other in ended
+        )
+        assert event.next_attempt == (None if is_last else event.attempt + 1)
+
+
+def test_a_run_that_is_cancelled_before_a_retry() -> None:
+    """Its test has an end, which says why it wasn't tried again."""
+    text = "trap 'exit 1' INT; start bad; end failed bad; kill -INT $PPID; sleep 60"
+    events = run(text, "bad", retries=2)
+    ended = [event for event in events if isinstance(event, Ended)]
+    assert [(event.attempt, event.ending.verdict, event.next_attempt) for event in ended] == [
+        (1, Verdict.FAILED, 2),
+        (2, Verdict.EXEC_FAILED, None),
+    ]
+    assert ended[1].ending.error == "the run was cancelled before this attempt started"
+
+
 def test_a_binary_without_a_log_file() -> None:
     """Its lines are believed."""
     events = run("start a; say ok a; start b; say failed b; exit 101", "a", "b", log_file=False)
@@ -193,6 +257,58 @@ def test_a_long_output() -> None:
     (ending,) = endings(run(text, "a")).values()
     assert (ending.stdout.length, ending.stdout.last[-4:]) == (3_000_003, b"xend")
     assert len(ending.stdout.first) == 1 << 20
+
+
+# What a test prints by a part that comes again and again, and how its line of JSON spells the part.
+PRINTED = [
+    (b"x", b"x"),
+    (b"\n", rb"\n"),
+    (b'\\"', rb"\\\""),
+    (b"\x1b[0m", rb"\u001b[0m"),
+    ("größer".encode(), "größer".encode()),
+    (b"\xff", b"\xff"),
+]
+
+
+@pytest.mark.parametrize(("part", "spelled"), PRINTED)
+@pytest.mark.parametrize("step", [1, 7, 4096, 1 << 20])
+def test_an_event_that_comes_in_pieces(part: bytes, spelled: bytes, step: int) -> None:
+    """A piece may end within a character or an escape."""
+    times, limit = 70_000 // len(part), 1000
+    line = b'{ "type": "test", "name": "a", "event": "failed", "stdout": "' + spelled * times
+    line += b'", "message": "\\"why\\"" }\n'
+    lines = EventLines(limit)
+    data = b"text " + line + b"more\n"
+    for begin in range(0, len(data), step):
+        lines.feed(data[begin : begin + step])
+    ((event, output, kept),) = lines.events()
+    assert (event.name, event.kind, event.message) == ("a", "failed", '"why"')
+    whole = part * times
+    assert output == Captured(whole[:limit], whole[-LAST:], len(whole))
+    assert kept == Captured(line[:limit], line[-LAST:], len(line))
+    assert lines.text.captured() == Captured(b"text more\n", b"", 10)
+
+
+@pytest.mark.parametrize(
+    "end",
+    [
+        pytest.param(b'", "message": }', id="no JSON"),
+        pytest.param(rb"\uzzzz and more", id="no escape"),
+        pytest.param(rb"\q and more", id="an unknown escape"),
+        pytest.param(b"\x00 and more", id="a character that must be escaped"),
+        pytest.param(b"", id="no end"),
+    ],
+)
+@pytest.mark.parametrize("last", [b"\n", b""])
+def test_a_long_line_that_is_no_event_is_text(end: bytes, last: bytes) -> None:
+    line = b'{ "type": "test", "name": "a", "event": "ok", "stdout": "' + b"x" * 70_000 + end + last
+    lines = EventLines(1000)
+    for data in (b"before\n", line[:-1], line[-1:]):
+        lines.feed(data)
+    lines.finish()
+    text = b"before\n" + line
+    assert lines.events() == []
+    assert lines.text.captured() == Captured(text[:1000], text[-LAST:], len(text))
 
 
 def test_text_without_an_end_of_line_is_not_kept_whole() -> None:

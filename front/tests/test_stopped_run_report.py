@@ -1,84 +1,66 @@
-"""The end that a stopped run is given, so that it has a report."""
+"""The report of a run that was stopped: of the tests that ended, and an error for all others."""
 
 from __future__ import annotations
 
 import json
+import pathlib
+import xml.etree.ElementTree
 
 import pytest
 
-from rezovamy_runs.bundles.container import Entries, container
+from rezovamy_runs import recorder
+from rezovamy_runs.commands import junit
 from rezovamy_runs.json_values import JsonObject
-from rezovamy_runs.report import stopped_run
-from rezovamy_runs.report.run_events import NoEvents
-from rezovamy_runs.streams.session_json import stats
+from rezovamy_runs.streams import session_json
 from tests import made
 
-TESTS = {"suites": {"alpha": ["t0", "t1", "t2", "t3"]}}
-STORE = container([(b"meta/test-list.json", json.dumps(TESTS).encode())])
+pytestmark = pytest.mark.program
+
+FAILED = made.status(1, 2, made.exit_code(7), stdout=b"no\n")
 STOPPED = [
     made.run_started(),
     made.skipped(0, "t3"),
     made.started(1, "t0"),
     made.finished(2, "t0", made.status(1, 1)),
+    made.started(1, "bad"),
+    made.finished(3, "bad", FAILED),
     made.started(4, "t1"),
 ]
 
 
-def log_of(*events: JsonObject) -> bytes:
-    """Return a log of events."""
-    return b"".join(json.dumps(event).encode() + b"\n" for event in events)
+LISTED = ["t0", "t1", "t2", "t3", "bad"]
 
 
-def bundle_of(log: bytes) -> bytes:
-    """Return a bundle with a log and the list of the tests."""
-    parts = [(b"manifest.json", b"{}"), (b"run.log.zst", log), (b"store.zip", STORE)]
-    return container(parts)
-
-
-def content(data: bytes, name: bytes) -> bytes:
-    """Return the content of an entry of a bundle."""
-    return Entries(lambda at, size: data[at : at + size], 0, len(data)).content(name)
-
-
-def test_the_end_of_a_stopped_run() -> None:
-    """It is at the last instant, and names what never started."""
-    ended = stopped_run.with_end(bundle_of(log_of(*STOPPED)))
-    assert ended is not None
-    *before, end = [json.loads(line) for line in content(ended, b"run.log.zst").splitlines()]
-    assert before == STOPPED
-    assert end == {
-        "kind": "run-finished",
-        "timestamp": {"secs": 1004, "nanos": 0, "offset": 0},
-        "elapsed": {"secs": 4, "nanos": 0},
-        "run-id": made.ID,
-        "start-time": {"secs": 1000, "nanos": 0, "offset": 0},
-        "run-elapsed": {"secs": 4, "nanos": 0},
-        "run-stats": {"single": stats(1)},
-        "outstanding-not-seen": {
-            "not-seen": [{"binary-id": "alpha", "test-name": "t2"}],
-            "total-not-seen": 1,
-        },
+def text_of(tmp_path: pathlib.Path, *events: object) -> list[str]:
+    """Return the XML of the runs of a bundle with these events."""
+    path = tmp_path / "one.bundle"
+    head: JsonObject = {
+        **session_json.HEAD,
+        **made.HEAD,
+        "test-list": {"suites": {"alpha": LISTED}},
     }
-    assert content(ended, b"manifest.json") == b"{}"
-    assert content(ended, b"store.zip") == STORE
+    session = "".join(json.dumps(one) + "\n" for one in (head, *events))
+    recorder.run(["record", path], input=session.encode())
+    return [document.text for document in junit.documents_of([path])]
 
 
-@pytest.mark.parametrize(
-    "data",
-    [
-        bundle_of(log_of(*STOPPED, made.run_finished(5, 5))),
-        bundle_of(log_of(*STOPPED[1:])),
-        bundle_of(b""),
-        container([(b"manifest.json", b"{}"), (b"run.log.zst", log_of(*STOPPED))]),
-        b"no bundle",
-    ],
-    ids=["it ended", "no start", "no events", "no store", "no bundle"],
-)
-def test_what_is_given_no_end(data: bytes) -> None:
-    assert stopped_run.with_end(data) is None
+def test_a_stopped_run(tmp_path: pathlib.Path) -> None:
+    (text,) = text_of(tmp_path, *STOPPED)
+    root = xml.etree.ElementTree.fromstring(text)
+    found = {
+        case.get("name"): [(inner.tag, inner.get("message")) for inner in case]
+        for case in root.iter("testcase")
+    }
+    broken = "; the run was broken off (it was stopped before its end)"
+    assert found == {
+        "t3": [("skipped", "ignored")],
+        "t0": [],
+        "bad": [("failure", "exit code 7"), ("system-out", None)],
+        "t1": [("error", f"the test started, and no event says how it ended{broken}")],
+        "t2": [("error", f"the test was announced, and never started{broken}")],
+        "(run)": [("error", broken.removeprefix("; "))],
+    }
 
 
-@pytest.mark.parametrize("line", [b"{}\n", b"\xff\n", b"[]\n", b"{\n"])
-def test_a_log_that_cannot_be_read(line: bytes) -> None:
-    with pytest.raises(NoEvents, match="its log can't be read: "):
-        stopped_run.with_end(bundle_of(log_of(*STOPPED) + line))
+def test_a_log_without_events(tmp_path: pathlib.Path) -> None:
+    assert text_of(tmp_path) == []

@@ -67,6 +67,10 @@ CANCELLED = (Status.CANCELLED, Status.STRESS_CANCELLED)
 WITHOUT_END = (Status.INCOMPLETE, Status.UNKNOWN)
 
 
+# A begin and an end, in whole microseconds since 1970-01-01 UTC.
+Slice = tuple[int, int]
+
+
 class TestName(NamedTuple):
     """What a test is known by: the id of its binary, and its name there."""
 
@@ -96,6 +100,12 @@ class Attempt:
     errors: str | None = None
     # How many bytes an output had before it was cut.
     truncated: Mapping[str, int] = dataclasses.field(default_factory=dict)
+    # When it ran: the stretches that pauses leave.
+    slices: tuple[Slice, ...] = ()
+    # When it was said to be slow, in whole microseconds since 1970-01-01 UTC.
+    slow_at: tuple[int, ...] = ()
+    # How many seconds it ran, without pauses; None if its instants don't tell.
+    active: float | None = None
 
     @property
     def passed(self) -> bool:
@@ -127,14 +137,12 @@ class Test:
 
     binary: str
     name: str
+    verdict: Verdict
     attempts: tuple[Attempt, ...] = ()
     # Why it was skipped, None where it wasn't.
     reason: str | None = None
     # The number of the sub-run of a stress run, from 0.
     stress: int | None = None
-    # Whether passing at a later attempt counts as a failure.
-    flaky_fails: bool = False
-    has_finished: bool = False
 
     @property
     def key(self) -> TestName:
@@ -142,17 +150,14 @@ class Test:
         return TestName(self.binary, self.name)
 
     @property
-    def verdict(self) -> Verdict:
-        """Return how the test ended."""
-        if self.reason is not None:
-            return Verdict.SKIP
-        if not self.has_finished:
-            return Verdict.UNFINISHED
-        if not self.attempts[-1].passed:
-            return Verdict.FAIL
-        if len(self.attempts) == 1:
-            return Verdict.PASS
-        return Verdict.FAIL if self.flaky_fails else Verdict.FLAKY
+    def has_finished(self) -> bool:
+        """Tell whether the test ran to its end."""
+        return self.verdict in (Verdict.PASS, Verdict.FLAKY, Verdict.FAIL)
+
+    @property
+    def flaky_fails(self) -> bool:
+        """Tell whether the test failed although its last attempt passed."""
+        return self.verdict is Verdict.FAIL and bool(self.attempts) and self.attempts[-1].passed
 
     @property
     def seconds(self) -> float:
@@ -173,11 +178,11 @@ class Script:
 
 
 @dataclasses.dataclass(frozen=True)
-class Pause:
-    """A stretch of time in which the run stood still; without an end if the run never went on."""
+class Cancellation:
+    """When a run was cancelled, in whole microseconds since 1970-01-01 UTC, and why."""
 
-    start: float
-    end: float | None
+    at: int
+    reason: str
 
 
 @dataclasses.dataclass(frozen=True)
@@ -222,29 +227,18 @@ class Summary:
 class Run(Summary):
     """A run as it was recorded. Tests stand as they started or were skipped, one by one."""
 
+    # The instants of the first and the last event.
+    extent: Slice = (0, 0)
     tests: tuple[Test, ...] = ()
     scripts: tuple[Script, ...] = ()
-    pauses: tuple[Pause, ...] = ()
-    # Why the run was cancelled, None where it wasn't.
-    cancelled_for: str | None = None
-    # The tests that the run names and never started.
+    # The stretches of time in which the run stood still.
+    pauses: tuple[Slice, ...] = ()
+    cancellations: tuple[Cancellation, ...] = ()
+    # The tests that the run names and never started, and how many more have no name.
     never_started: tuple[TestName, ...] = ()
+    unnamed: int = 0
 
-
-def run_of(
-    summary: Summary,
-    tests: tuple[Test, ...],
-    scripts: tuple[Script, ...],
-    pauses: tuple[Pause, ...],
-    cancelled_for: str | None,
-    never_started: tuple[TestName, ...] = (),
-) -> Run:
-    """Return a run of its summary and of what happened in it."""
-    return Run(
-        **vars(summary),
-        tests=tests,
-        scripts=scripts,
-        pauses=pauses,
-        cancelled_for=cancelled_for,
-        never_started=never_started,
-    )
+    @property
+    def cancelled_for(self) -> str | None:
+        """Return why the run was cancelled at last, None where it wasn't."""
+        return self.cancellations[-1].reason if self.cancellations else None

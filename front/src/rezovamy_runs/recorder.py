@@ -10,7 +10,7 @@ import subprocess
 from collections.abc import Sequence
 from typing import IO
 
-from rezovamy_runs.bundles import bundle, bundle_file
+from rezovamy_runs.bundles import bundle_file, opening
 from rezovamy_runs.faults import file_kinds
 from rezovamy_runs.faults.causes import Call
 from rezovamy_runs.faults.explain import explain_or_show
@@ -22,6 +22,10 @@ FRONT = pathlib.Path(__file__).resolve().parents[2]
 DEFAULT_LIMIT = 268435456
 
 Word = str | os.PathLike[str]
+
+
+class Rejected(Fault):
+    """The program ended with a status that isn't 0, and why."""
 
 
 def places() -> list[pathlib.Path]:
@@ -87,7 +91,7 @@ def run(
     if done.returncode != 0:
         line = done.stderr.decode("utf-8", "replace").strip()
         begins = input[: file_kinds.MOST] if input is not None else begin_of(stdin)
-        raise Fault(sentence(words, done.returncode, line, begins))
+        raise Rejected(sentence(words, done.returncode, line, begins))
     return done.stdout or b""
 
 
@@ -116,9 +120,15 @@ def not_started(path: pathlib.Path, error: OSError) -> Fault:
 def run_on_bundle(
     words: Sequence[Word], path: pathlib.Path, stdout: IO[bytes] | int = subprocess.PIPE
 ) -> bytes:
-    """Run a command that reads a bundle on that at a path, and return what it prints."""
-    with bundle.plain(path) as plain:
-        return run([*words, *limits(bundle_file.size_of(plain))], stdin=plain, stdout=stdout)
+    """Run a command that reads a bundle on that at a path, and return what it prints.
+
+    If the program rejects the bundle, the fault names the path.
+    """
+    with opening.plain(path) as plain:
+        try:
+            return run([*words, *limits(bundle_file.size_of(plain))], stdin=plain, stdout=stdout)
+        except Rejected as error:
+            raise Fault(f"{path}: {error}") from error
 
 
 def begin_of(stream: IO[bytes] | None) -> bytes | None:

@@ -4,7 +4,15 @@ from __future__ import annotations
 
 import pytest
 
-from tests.made import event, exit_code, finished, session_of, skipped, started, status
+from tests.made import (
+    exit_code,
+    finished,
+    script_events,
+    session_of,
+    skipped,
+    started,
+    status,
+)
 from tests.opened_page import Page
 
 pytestmark = pytest.mark.browser
@@ -76,13 +84,11 @@ def test_all_numbers_count_the_same_tests(page: Page) -> None:
 
 
 def test_a_setup_script_that_failed_is_counted_above_and_below(page: Page) -> None:
-    script = {"script_id": "database", "index": 0, "program": "sh", "args": []}
     ended = status(0, 1, exit_code(3), combined=b"")
     page.open(
         session_of(
             [
-                event("setup-script-started", 0, **script),
-                event("setup-script-finished", 1, **script, run_status=ended),
+                *script_events(0, 1, ended),
                 started(1, "passes", 0),
                 finished(2, "passes", status(1, 1)),
             ]

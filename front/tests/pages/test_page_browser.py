@@ -8,13 +8,14 @@ import re
 import pytest
 
 from tests import EXAMPLES
-from tests.browser import NEXT_FRAME, Json
+from tests.browser import NEXT_FRAME
 from tests.made import (
-    event,
     exit_code,
     failed,
     finished,
     retried,
+    run_started,
+    script_events,
     session_of,
     started,
     status,
@@ -78,13 +79,11 @@ def test_failures_come_first(page: Page) -> None:
 
 
 def test_a_setup_script_that_failed_is_a_failure(page: Page) -> None:
-    script: Json = {"script_id": "database", "index": 0, "program": "sh", "args": []}
     ended = status(0, 1, exit_code(3), combined=b"")
     page.open(
         session_of(
             [
-                event("setup-script-started", 0, **script),
-                event("setup-script-finished", 1, **script, run_status=ended),
+                *script_events(0, 1, ended),
                 started(1, "passes", 0),
                 finished(2, "passes", status(1, 1)),
             ]
@@ -230,7 +229,7 @@ def test_very_long_names_take_some_lines_of_the_overview(page: Page, wide: int) 
         started(1, f"1{name}", 0),
         finished(2, f"1{name}", status(1, 1)),
     ]
-    begun = event("run-started", 0, profile_name=f"p{name}", cli_args=["cargo", name])
+    begun = run_started(profile=f"p{name}", cli_args=["cargo", name])
     page.open(session_of([begun, *(with_binary(name, one) for one in events)]), wide=wide)
     for place in (".item", "tr", ".about dd", ".facts"):
         heights = f"[...document.querySelectorAll('{place}')].map((one) => one.offsetHeight)"
@@ -422,7 +421,7 @@ def test_an_output_is_whole_on_paper(paper: Page) -> None:
 
 
 def test_a_run_without_tests(page: Page) -> None:
-    page.open(session_of([event("run-started", 0, profile_name="default", cli_args=[])]))
+    page.open(session_of([run_started()]))
     assert page.inner("#headline") == "No test ran"
     page.focus("#lanes")
     page.browser.press("ArrowRight", 39)

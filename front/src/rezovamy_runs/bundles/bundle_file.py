@@ -10,23 +10,22 @@ import shutil
 import tempfile
 import zlib
 from collections.abc import Iterator
-from typing import IO, BinaryIO, NamedTuple
-
-from rezovamy_runs.bundles import blocks
-from rezovamy_runs.bundles.container import Read, Unreadable
+from typing import IO, BinaryIO
 
 PLAIN, COMPRESSED = ".bundle", ".bundle.gz"
 ENDINGS = (PLAIN, COMPRESSED)
+# What a compressed file begins with, by RFC 1952.
+GZIP = b"\x1f\x8b"
+# A higher level makes bundles hardly smaller, and takes longer.
+LEVEL = 6
+# How many bytes are copied at a time.
+PIECE = 1 << 20
 
 PathLike = str | os.PathLike[str]
 
 
-class Source(NamedTuple):
-    """The bytes of a bundle: how many there are, how many its file has, and how they are read."""
-
-    size: int
-    stored: int
-    read: Read
+class Unreadable(Exception):
+    """Why a compressed file can't be read."""
 
 
 def is_named_so(name: str) -> bool:
@@ -55,10 +54,9 @@ def opened(path: PathLike) -> BinaryIO:
     return open(path, "rb", opener=lambda name, flags: os.open(name, flags | os.O_NONBLOCK))
 
 
-def reading(file: IO[bytes]) -> Read:
-    """Return what reads a part of a file."""
-    descriptor = file.fileno()
-    return lambda at, size: os.pread(descriptor, size, at)
+def is_compressed(file: IO[bytes]) -> bool:
+    """Tell whether a file begins as a compressed one."""
+    return os.pread(file.fileno(), len(GZIP), 0) == GZIP
 
 
 def size_of(file: IO[bytes]) -> int:
@@ -67,29 +65,14 @@ def size_of(file: IO[bytes]) -> int:
 
 
 @contextlib.contextmanager
-def source(path: PathLike) -> Iterator[Source]:
-    """Lend the bytes of the bundle at a path, of which only those are read that are asked for."""
-    with opened(path) as file:
-        read, stored = reading(file), size_of(file)
-        if read(0, len(blocks.MAGIC)) != blocks.MAGIC:
-            yield Source(stored, stored, read)
-        elif blocks.has_blocks(read):
-            parts = blocks.Blocks(read, stored)
-            yield Source(parts.size, stored, parts.read)
-        else:
-            with unpacked(file) as whole:
-                yield Source(size_of(whole), stored, reading(whole))
-
-
-@contextlib.contextmanager
 def plain(path: PathLike) -> Iterator[IO[bytes]]:
     """Lend a file that has the bytes of the bundle at a path, at its first byte."""
     with opened(path) as file:
-        if reading(file)(0, len(blocks.MAGIC)) != blocks.MAGIC:
-            yield file
-        else:
+        if is_compressed(file):
             with unpacked(file) as whole:
                 yield whole
+        else:
+            yield file
 
 
 @contextlib.contextmanager
@@ -98,7 +81,7 @@ def unpacked(file: BinaryIO) -> Iterator[IO[bytes]]:
     with tempfile.TemporaryFile() as whole:
         try:
             with gzip.GzipFile(fileobj=file) as packed:
-                shutil.copyfileobj(packed, whole, blocks.BLOCK)
+                shutil.copyfileobj(packed, whole, PIECE)
         except (EOFError, gzip.BadGzipFile, zlib.error) as error:
             raise Unreadable(f"it is broken: {error}") from error
         whole.seek(0)
@@ -107,7 +90,7 @@ def unpacked(file: BinaryIO) -> Iterator[IO[bytes]]:
 
 def plain_bytes(data: bytes) -> bytes:
     """Return the bytes of a bundle, which may be given compressed."""
-    if not data.startswith(blocks.MAGIC):
+    if not data.startswith(GZIP):
         return data
     try:
         return gzip.decompress(data)
@@ -116,9 +99,13 @@ def plain_bytes(data: bytes) -> bytes:
 
 
 def compress(path: pathlib.Path, target: pathlib.Path) -> None:
-    """Write the bytes of the file at a path to another one, compressed unless they are already."""
+    """Write the bytes of the file at a path to another one, compressed unless they are already.
+
+    Equal bytes become equal ones.
+    """
     with opened(path) as file, open(target, "wb") as packed:
-        if reading(file)(0, len(blocks.MAGIC)) == blocks.MAGIC:
-            shutil.copyfileobj(file, packed)
+        if is_compressed(file):
+            shutil.copyfileobj(file, packed, PIECE)
         else:
-            blocks.compress(file, packed)
+            with gzip.GzipFile("", "wb", LEVEL, packed, mtime=0) as whole:
+                shutil.copyfileobj(file, whole, PIECE)

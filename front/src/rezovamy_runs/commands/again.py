@@ -7,8 +7,7 @@ import dataclasses
 import pathlib
 from collections.abc import Iterable
 
-from rezovamy_runs import formatting
-from rezovamy_runs import recorder
+from rezovamy_runs import formatting, quarantine, recorder
 from rezovamy_runs.bundles import bundle, bundle_file
 from rezovamy_runs.collecting.cargo_line import manifest_of
 from rezovamy_runs.command_line import add_run, options_of, say
@@ -66,7 +65,9 @@ def run(words: argparse.Namespace) -> int:
         say_each(nameless)
         return nothing_to_run(plan, before, bool(nameless))
     notes = note_options.notes_again(words, runs, before)
-    outputs = test_command.Outputs(runs, options.page, options.junit, notes)
+    outputs = test_command.Outputs(
+        runs, options.page, options.junit, notes, quarantine=quarantine.of(runs)
+    )
     plan.is_same_build = missing_tests.is_same_build(first, options.rest)
     given = ["--", *options.rest] if options.rest else []
     cli_args = ["rezovamy-runs", "again", before.id, *given]
@@ -79,11 +80,9 @@ def run(words: argparse.Namespace) -> int:
 
     if options.shared:
         run_options.refuse_with_shared(words)
-    of_run = run_options.options_of_run(words)
+    of_run = dataclasses.replace(run_options.options_of_run(words), quarantine=outputs.quarantine)
     process_run = ProcessRun(calls, of_run, before.profile, cli_args, plan)
-    return test_command.guarded_status(
-        lambda: outputs.run(process_run, lambda made: judge(made.status, made.suites))
-    )
+    return test_command.guarded_status(lambda: outputs.run(process_run, judge))
 
 
 def say_each(lines: Iterable[str]) -> None:
@@ -119,10 +118,9 @@ def never_started(path: pathlib.Path) -> list[str]:
     The bundle may be gone by now.
     """
     try:
-        end = bundle.read_end(path)
+        count = bundle.read_run(path, outputs=False).unnamed
     except (FileNotFoundError, Fault):
         return []
-    count = end.unseen - len(end.unseen_names) if end else 0
     if count <= 0:
         return []
     nameless = f"{formatting.count(count, 'test')} of the run never started, and nothing names them"

@@ -9,7 +9,7 @@ import sys
 from collections.abc import Callable
 from typing import NamedTuple
 
-from rezovamy_runs import formatting, terminal
+from rezovamy_runs import formatting, quarantine, terminal
 from rezovamy_runs.command_line import options_of, print_lines, print_out, whole
 from rezovamy_runs.commands import history_options
 from rezovamy_runs.commands.history_options import Table
@@ -21,6 +21,7 @@ from rezovamy_runs.history.outcomes import Comparison, Outcomes, Slower
 from rezovamy_runs.history.rows import named, outcomes_of
 from rezovamy_runs.json_values import JsonObject
 from rezovamy_runs.model import TestName
+from rezovamy_runs.quarantine import Quarantine
 from rezovamy_runs.report import tables
 from rezovamy_runs.report.run_text import name_of
 from rezovamy_runs.store import run_folder
@@ -78,11 +79,12 @@ class Side:
 
 @dataclasses.dataclass(frozen=True)
 class Compared:
-    """Two runs, and what differs between them."""
+    """Two runs, what differs between them, and which tests are in quarantine."""
 
     first: Side
     second: Side
     found: Comparison
+    quarantine: Quarantine = quarantine.NOTHING
 
     @property
     def new_failures(self) -> list[TestName]:
@@ -91,9 +93,10 @@ class Compared:
 
     @property
     def is_worse(self) -> bool:
-        """Tell whether a test fails or never ended that didn't before."""
-        found = self.found
-        return bool(found.newly_failing or found.never_ended or self.new_failures)
+        """Tell whether a test fails or never ended that didn't before, and may not fail."""
+        failing = [*self.found.newly_failing, *self.new_failures]
+        counting = [key for key in failing if key not in self.quarantine]
+        return bool(counting or self.found.never_ended)
 
 
 def add_options(parser: argparse.ArgumentParser) -> None:
@@ -127,7 +130,7 @@ def run(words: argparse.Namespace) -> int:
     """Print what differs."""
     options = options_of(Options, words)
     runs = run_folder.here()
-    paths = [runs.find(word) if word else None for word in (options.first, options.second)]
+    paths = [bundle_of(runs, word) if word else None for word in (options.first, options.second)]
     if all(path is not None and not is_stored(runs, path) for path in paths):
         first, second = (side_of(path) for path in paths if path is not None)
         compared = comparison(first, second, [])
@@ -135,8 +138,20 @@ def run(words: argparse.Namespace) -> int:
         compared = history_options.ask(
             runs, lambda database, found: Asked(runs, database, found, options).compared(*paths)
         )
+    compared = dataclasses.replace(compared, quarantine=quarantine.of(runs))
     print_compared(compared, options)
     return BAD if options.fail and compared.is_worse else 0
+
+
+def bundle_of(runs: Store, word: str) -> pathlib.Path:
+    """Return the bundle of the run that a word names; of a group's runs, that of the first."""
+    chosen = runs.find_all(word)
+    if chosen.group is None:
+        return chosen.paths[0]
+    first = min(
+        (run.started, run.id, run.bundle) for run in runs.readable() if run.bundle in chosen.paths
+    )
+    return first[-1]
 
 
 def is_stored(runs: Store, path: pathlib.Path) -> bool:
@@ -251,7 +266,9 @@ def value_of(compared: Compared) -> JsonObject:
     found = compared.found
     value: JsonObject = {"first": compared.first.run.id, "second": compared.second.run.id}
     for part in PARTS:
-        value[part.title.replace(" ", "-")] = [named(key) for key in part.tests(found)]
+        value[part.title.replace(" ", "-")] = [
+            named(key) | {"quarantined": key in compared.quarantine} for key in part.tests(found)
+        ]
     value["slower"] = [
         named(one.key)
         | {
@@ -283,7 +300,8 @@ def lines_of(compared: Compared, paint: terminal.Paint) -> list[str]:
         if keys:
             lines.append(paint(part.colour, f"{part.title}: {formatting.count(len(keys), 'test')}"))
             lines += [
-                f"  {name_of(key)}{', which fails' if key in failing else ''}" for key in keys
+                f"  {compared.quarantine.marked(key)}{', which fails' if key in failing else ''}"
+                for key in keys
             ]
     if found.slower:
         count = formatting.count(len(found.slower), "test")
@@ -297,7 +315,10 @@ def markdown_of(compared: Compared) -> list[str]:
     parts = [Table(head_of(compared))]
     for part in PARTS:
         rows = [
-            (name_of(key), (after[key].message or "") if key in after else "")
+            (
+                compared.quarantine.marked(key),
+                (after[key].message or "") if key in after else "",
+            )
             for key in part.tests(found)
         ]
         if rows:

@@ -4,7 +4,7 @@ from __future__ import annotations
 
 import argparse
 
-from rezovamy_runs import formatting
+from rezovamy_runs import formatting, quarantine
 from rezovamy_runs.commands import history_options
 from rezovamy_runs.commands.history_options import Table
 from rezovamy_runs.history import flakiness, joining, queries
@@ -13,7 +13,7 @@ from rezovamy_runs.history.flakiness import Kind, Record
 from rezovamy_runs.history.joining import JoinedRun
 from rezovamy_runs.history.rows import named
 from rezovamy_runs.json_values import JsonObject
-from rezovamy_runs.report.run_text import name_of
+from rezovamy_runs.quarantine import Quarantine
 from rezovamy_runs.store import run_folder
 
 SUMMARY = "say which tests fail and pass at one commit, fail at some commits, or always fail"
@@ -40,6 +40,7 @@ def add_options(parser: argparse.ArgumentParser) -> None:
 def run(words: argparse.Namespace) -> int:
     """Print the tests that failed, the least trusted first."""
     runs = run_folder.here()
+    excused = quarantine.of(runs)
 
     def question(
         database: Database, found: list[JoinedRun]
@@ -52,16 +53,20 @@ def run(words: argparse.Namespace) -> int:
 
     chosen, records, tests = history_options.ask(runs, question)
     history_options.print_answer(
-        words, lambda: [value_of(one) for one in records], parts_of(records, len(chosen), tests)
+        words,
+        lambda: [value_of(one, excused) for one in records],
+        parts_of(records, len(chosen), tests, excused),
     )
     return 0
 
 
-def parts_of(records: list[Record], runs: int, tests: int) -> list[Table | str]:
+def parts_of(
+    records: list[Record], runs: int, tests: int, excused: Quarantine
+) -> list[Table | str]:
     """Return what is said for people."""
     parts: list[Table | str] = []
     for kind, title in TITLES.items():
-        rows = [row_of(one) for one in records if one.kind is kind]
+        rows = [row_of(one, excused) for one in records if one.kind is kind]
         if rows:
             count = formatting.count(len(rows), "test")
             parts.append(Table(f"{title}: {count}", HEADS, rows, HEADS[:-1]))
@@ -71,19 +76,21 @@ def parts_of(records: list[Record], runs: int, tests: int) -> list[Table | str]:
     return [*parts, f"{said}; the last one ran {formatting.count(tests, 'test')}"]
 
 
-def row_of(record: Record) -> tuple[object, ...]:
+def row_of(record: Record, excused: Quarantine) -> tuple[object, ...]:
     """Return what is said of a test for people."""
-    return record.failed, record.flaky, record.passed, record.runs, name_of(record.test)
+    name = excused.marked(record.test)
+    return record.failed, record.flaky, record.passed, record.runs, name
 
 
-def value_of(record: Record) -> JsonObject:
+def value_of(record: Record, excused: Quarantine) -> JsonObject:
     """Return what is said of a test for scripts."""
     return {
         **named(record.test),
-        "kind": record.kind.name.lower().replace("_", "-"),
+        "kind": record.kind.word,
         "runs": record.runs,
         "passed": record.passed,
         "flaky": record.flaky,
         "failed": record.failed,
         "mixed-commits": record.mixed,
+        "quarantined": record.test in excused,
     }

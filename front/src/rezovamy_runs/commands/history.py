@@ -1,12 +1,17 @@
-"""Says how one test fared from run to run."""
+"""Says how one test fared from run to run, or writes the page of many runs."""
 
 from __future__ import annotations
 
 import argparse
+import pathlib
+from collections.abc import Iterable
 
 from rezovamy_runs import formatting
+from rezovamy_runs.answers import WRONG_WORDS
+from rezovamy_runs.command_line import print_out
 from rezovamy_runs.commands import history_options
 from rezovamy_runs.commands.history_options import Table
+from rezovamy_runs.commands.page import STANDARD_OUTPUT, print_page, written
 from rezovamy_runs.faults.fault import Fault
 from rezovamy_runs.history import joining, queries, timelines
 from rezovamy_runs.history.database import Database
@@ -14,12 +19,17 @@ from rezovamy_runs.history.joining import JoinedRun
 from rezovamy_runs.history.rows import key_of_test, named
 from rezovamy_runs.history.timelines import MEANINGS, Entry, Timeline
 from rezovamy_runs.json_values import JsonObject
+from rezovamy_runs.model import TestName
+from rezovamy_runs.page_of_runs import document
+from rezovamy_runs.page_of_runs.data import HistoryData
 from rezovamy_runs.report.run_text import name_of
 from rezovamy_runs.store import run_folder
+from rezovamy_runs.store.run_folder import Store
 
 SUMMARY = "say of a test how it ended in each run, since when it fails, and how long it ran"
 TAKES_REST = False
-MOST_RUNS = 1000
+MOST_RUNS, MOST_RUNS_OF_PAGE = 1000, 200
+PAGE_FILE = "history.html"
 # How many tests a part of a name may name.
 MOST_TESTS = 20
 MARKS_A_LINE = 80
@@ -27,20 +37,29 @@ MARKS_A_LINE = 80
 
 def add_options(parser: argparse.ArgumentParser) -> None:
     """Take a test, which runs are looked at, and the form."""
-    parser.add_argument("test", metavar="TEST", help="the name of a test, or a part of it")
-    history_options.add_window(parser, MOST_RUNS)
-    history_options.add_form(parser)
+    parser.add_argument(
+        "test", nargs="?", metavar="TEST", help="the name of a test, or a part of it"
+    )
+    told = f"{MOST_RUNS}, for a page {MOST_RUNS_OF_PAGE}"
+    history_options.add_window(parser, None, told=told)
+    history_options.add_form(
+        parser,
+        "write the tests and runs as one HTML page to PATH, - for standard output "
+        f"({PAGE_FILE} beside the runs); TEST chooses tests",
+    )
 
 
 def run(words: argparse.Namespace) -> int:
-    """Print a line of characters for each test, and what they say."""
+    """Print a line of characters for each test, and what they say; or write the page."""
+    if words.page is not None:
+        return write_page(words)
+    if words.test is None:
+        raise Fault("name a TEST, or give --page for a page of all tests", WRONG_WORDS)
     runs = run_folder.here()
 
     def question(database: Database, found: list[JoinedRun]) -> list[Timeline]:
         """Ask what the chosen runs say of the tests."""
-        chosen = joining.latest(found, words.runs, words.branch)
-        history_options.some(chosen, runs, words.branch)
-        return timelines_of(database, chosen, words.test)
+        return timelines_of(database, chosen(words, runs, found, MOST_RUNS), words.test)
 
     found = history_options.ask(runs, question)
     parts = [part for one in found for part in parts_of(one)]
@@ -48,12 +67,54 @@ def run(words: argparse.Namespace) -> int:
     return 0
 
 
+def chosen(
+    words: argparse.Namespace, runs: Store, found: list[JoinedRun], most: int
+) -> list[JoinedRun]:
+    """Return the runs that the words choose, no more than so many if they don't say."""
+    latest = joining.latest(found, words.runs or most, words.branch)
+    return history_options.some(latest, runs, words.branch)
+
+
+def write_page(words: argparse.Namespace) -> int:
+    """Write the page of many runs, and print where it is."""
+    runs = run_folder.here()
+    target = pathlib.Path(words.page) if words.page else runs.folder / PAGE_FILE
+    is_printed = words.page == STANDARD_OUTPUT
+
+    def question(database: Database, found: list[JoinedRun]) -> HistoryData:
+        """Ask for what the page knows."""
+        latest = chosen(words, runs, found, MOST_RUNS_OF_PAGE)
+        names = queries.test_names(database)
+        tests = None if words.test is None else set(tests_of(names.values(), words.test))
+        folder = None if is_printed else target.parent
+        return document.value_of(database, latest, project_of(runs, latest), folder, tests)
+
+    text = document.page_html(history_options.ask(runs, question))
+    if is_printed:
+        print_page(text)
+    else:
+        print_out(f"{written(text, target, '--page')}\n")
+    return 0
+
+
+def project_of(runs: Store, latest: list[JoinedRun]) -> str:
+    """Return the project that the notes of the last run name, or the name of the folder."""
+    known = runs.notes(runs.path_of(latest[-1].id))
+    return known.project if known and known.project else runs.folder.resolve().name
+
+
+def tests_of(names: Iterable[TestName], word: str) -> list[TestName]:
+    """Return the tests that a word names."""
+    tests = timelines.matching(list(names), word)
+    if not tests:
+        raise Fault(f"no test has {word} in its name: `rezovamy-runs show --all` names all tests")
+    return tests
+
+
 def timelines_of(database: Database, runs: list[JoinedRun], word: str) -> list[Timeline]:
     """Return the tests that a word names over runs."""
     names = queries.test_names(database)
-    tests = timelines.matching(list(names.values()), word)
-    if not tests:
-        raise Fault(f"no test has {word} in its name: `rezovamy-runs show --all` names all tests")
+    tests = tests_of(names.values(), word)
     if len(tests) > MOST_TESTS:
         raise Fault(
             f"{len(tests)} tests have {word} in their names, as {name_of(tests[0])}: "

@@ -22,23 +22,27 @@ Answer = TypeVar("Answer")
 SHORT_COMMIT = 8
 
 
-def add_form(parser: argparse.ArgumentParser) -> None:
-    """Take the form of what is printed."""
+def add_form(parser: argparse.ArgumentParser, page: str | None = None) -> None:
+    """Take the form of what is printed; also a page, if `page` says what that is."""
     form = parser.add_mutually_exclusive_group()
     form.add_argument("--json", action="store_true", help="print JSON for scripts")
     form.add_argument(
         "--markdown", action="store_true", help="print Markdown, as for the summary of a CI job"
     )
+    if page:
+        form.add_argument("--page", nargs="?", const="", metavar="PATH", help=page)
 
 
-def add_window(parser: argparse.ArgumentParser, most: int, least: int = 1) -> None:
-    """Take which runs are looked at."""
+def add_window(
+    parser: argparse.ArgumentParser, most: int | None, least: int = 1, told: str = ""
+) -> None:
+    """Take which runs are looked at; `told` is the default in words, if that isn't a number."""
     parser.add_argument(
         "--runs",
         type=whole(least, 10**6),
         default=most,
         metavar="N",
-        help=f"look at the latest N runs ({most})",
+        help=f"look at the latest N runs ({told or most})",
     )
     parser.add_argument("--branch", metavar="NAME", help="look only at runs of this branch")
 

@@ -6,19 +6,27 @@ import argparse
 import contextlib
 import dataclasses
 import pathlib
+import sys
 from collections.abc import Sequence
 
-from rezovamy_runs import recorder
+from rezovamy_runs import quarantine, recorder
 from rezovamy_runs.bundles import bundle
-from rezovamy_runs.command_line import add_run, options_of, print_out
+from rezovamy_runs.command_line import add_run, options_of, print_out, say
 from rezovamy_runs.commands import junit_xml
 from rezovamy_runs.faults.fault import Fault
-from rezovamy_runs.report import stopped_run
-from rezovamy_runs.report.junit import Document, documents_of
+from rezovamy_runs.model import Run, TestName
+from rezovamy_runs.quarantine import Quarantine
+from rezovamy_runs.report import joined_reports, stopped_run
+from rezovamy_runs.report.joined_reports import Part
+from rezovamy_runs.report.junit import Document, document, reports_of
 from rezovamy_runs.report.junit_elements import JunitWriter
-from rezovamy_runs.report.run_events import NoEvents, runs_of
+from rezovamy_runs.report.run_events import NoEvents, of_run
 from rezovamy_runs.report.run_report import NoReport
-from rezovamy_runs.store import run_folder
+from rezovamy_runs.report.stopped_run import as_stopped
+from rezovamy_runs.report.unfinished import with_events
+from rezovamy_runs.runner import rerun_plan
+from rezovamy_runs.runner.rerun_plan import NoPlan
+from rezovamy_runs.store import groups, run_folder
 
 SUMMARY = "write JUnit XML of a run, for a CI"
 TAKES_REST = False
@@ -49,9 +57,13 @@ def run(words: argparse.Namespace) -> int:
     """Write the files, and print their paths."""
     options = options_of(Options, words)
     runs = run_folder.here()
-    paths = runs.find_all(options.run)
+    chosen = runs.find_all(options.run)
+    paths = chosen.paths if chosen.group else runs.with_reruns(chosen.paths[0])
+    if chosen.group:
+        for line in groups.missing_lines(chosen.group, map(runs.notes, paths)):
+            say(f"rezovamy-runs: {line}")
     if options.to:
-        return write(paths, options.to, options.fail)
+        return write(paths, options.to, quarantine.of(runs), options.fail)
     return write_beside(paths, runs, options.fail)
 
 
@@ -60,12 +72,14 @@ def write_beside(paths: Sequence[pathlib.Path], runs: run_folder.Store, fails: b
     folder = beside(runs)
     with contextlib.suppress(OSError):
         runs.prepare_junit()
-    return write(paths, folder, fails)
+    return write(paths, folder, quarantine.of(runs), fails)
 
 
-def write(bundles: Sequence[pathlib.Path], folder: pathlib.Path, fails: bool = False) -> int:
+def write(
+    bundles: Sequence[pathlib.Path], folder: pathlib.Path, excused: Quarantine, fails: bool = False
+) -> int:
     """Write the files of a run, or of a group's runs, print their paths, and return the status."""
-    documents = [document for path in bundles for document in bundle_documents(path)]
+    documents = documents_of(bundles, excused)
     try:
         junit_xml.remove_older(folder)
         if not documents:
@@ -84,26 +98,53 @@ def write(bundles: Sequence[pathlib.Path], folder: pathlib.Path, fails: bool = F
     return junit_xml.BAD if fails and has_failed else 0
 
 
-def bundle_documents(path: pathlib.Path) -> list[Document]:
-    """Return the documents of the runs of a bundle, as the program reports them.
+def documents_of(
+    bundles: Sequence[pathlib.Path], excused: Quarantine = quarantine.NOTHING
+) -> list[Document]:
+    """Return the documents of a bundle's runs, or the one of all runs of several bundles."""
+    parts = sorted((part for path in bundles for part in parts_of(path)), key=start_of)
+    reports = [part.report for part in parts]
+    if len(bundles) > 1 and parts:
+        reports = [joined_reports.joined(parts)]
+    return [document(report, JunitWriter(), excused) for report in reports]
 
-    A run that was stopped is reported as if it had ended then.
+
+def start_of(part: Part) -> int:
+    """Return the instant at which the run of a report started; one that isn't known is the last."""
+    start = part.report.timestamp
+    return joined_reports.nanoseconds(start) if start else sys.maxsize
+
+
+def parts_of(path: pathlib.Path) -> list[Part]:
+    """Return the reports of the runs of a bundle, with what its view says besides.
+
+    A run that was stopped has the tests that ended.
     """
     try:
-        with bundle.plain(path) as file:
-            data = file.read()
-        ended = stopped_run.with_end(data)
-        if ended is None:
-            return documents_of(reported(data), runs_of(data), JunitWriter())
-        runs = [stopped_run.as_stopped(run) for run in runs_of(ended)]
-        return documents_of(reported(ended), runs, JunitWriter())
-    except (NoReport, NoEvents, UnicodeError) as error:
+        text = recorder.run_on_bundle(["report"], path).decode()
+        run = bundle.read_run(path)
+        is_again = run.parent is not None
+        if text:
+            runs = [of_run(run)] if text.count("\n") == 1 else None
+            return [Part(report, is_again) for report in reports_of(text, runs)]
+        if not run.tests:
+            return []
+        run = dataclasses.replace(run, never_started=waiting(path, run))
+        stopped = with_events(stopped_run.report_of(run), as_stopped(of_run(run)))
+        return [Part(stopped, is_again)]
+    except (NoReport, NoEvents, NoPlan, UnicodeError) as error:
         raise Fault(f"the report of {path} can't be read: {error}; record the run again") from error
 
 
-def reported(data: bytes) -> str:
-    """Return the report of the bundle with these bytes."""
-    return recorder.run(["report", *recorder.limits(len(data))], input=data).decode()
+def waiting(path: pathlib.Path, run: Run) -> tuple[TestName, ...]:
+    """Return the tests that a stopped run lists and that had not started.
+
+    The plan of a rerun has all tests that haven't passed, so also those.
+    """
+    plan = rerun_plan.read(recorder.run_on_bundle(["rerun"], path).decode())
+    seen = {test.key for test in run.tests}
+    listed = (TestName(binary, name) for binary, names in plan.run.items() for name in names)
+    return tuple(name for name in listed if name not in seen)
 
 
 def remove_older(runs: run_folder.Store) -> None:

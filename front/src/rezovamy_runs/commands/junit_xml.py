@@ -28,15 +28,19 @@ import pathlib
 import re
 import sys
 
+from rezovamy_runs.bundles import bundle, opening
 from rezovamy_runs.command_line import command_line, input_stream, print_out, say, whole
+from rezovamy_runs.faults.fault import Fault
 from rezovamy_runs.report.junit import Document, documents_of
 from rezovamy_runs.report.junit_elements import LEFT_OUT, JunitWriter
 from rezovamy_runs.report.junit_texts import MOST
-from rezovamy_runs.report.run_events import NoEvents, runs_of
+from rezovamy_runs.report.run_events import NoEvents, RunEvents, of_run, of_session
 from rezovamy_runs.report.run_report import NoReport
 
 FILE_NAME = re.compile(r"junit(?:-(?:[2-9]|[1-9]\d+))?\.xml", re.A)
 STANDARD_INPUT = "-"
+# What a bundle begins with.
+BUNDLE = b"nxtcont1"
 UNREADABLE, NOTHING, BAD = 1, 3, 4
 
 
@@ -75,8 +79,17 @@ def report_documents(options: Options) -> list[Document]:
         data = input_stream().read()
     else:
         data = pathlib.Path(options.reports).read_bytes()
-    runs = runs_of(options.events.read_bytes()) if options.events else None
+    runs = runs_of(options.events) if options.events else None
     return documents_of(data.decode(), runs, options.writer)
+
+
+def runs_of(path: pathlib.Path) -> list[RunEvents]:
+    """Return what a bundle or a session says beside the reports of its runs."""
+    with opening.plain(path) as file:
+        data = file.read()
+    if data.startswith(BUNDLE):
+        return [of_run(bundle.read_run(path, outputs=False))]
+    return of_session(data)
 
 
 def run(options: Options) -> int:
@@ -88,7 +101,7 @@ def run(options: Options) -> int:
             say("junit_xml: there is no report: no run has ended")
             return NOTHING
         print_out("".join(f"{path}\n" for path in write_documents(documents, options.folder)))
-    except (NoReport, NoEvents, OSError, UnicodeError) as error:
+    except (Fault, NoReport, NoEvents, OSError, UnicodeError) as error:
         say(f"junit_xml: {error}")
         with contextlib.suppress(OSError):
             remove_older(options.folder)

@@ -9,10 +9,12 @@ import sys
 
 from rezovamy_runs.bundles import bundle_file
 from rezovamy_runs.command_line import add_run, options_of, print_out, whole
+from rezovamy_runs.commands import page_past
 from rezovamy_runs.faults.fault import Fault
 from rezovamy_runs.page import document
 from rezovamy_runs.page.data import MOST_OUTPUT
-from rezovamy_runs.store import run_folder, whole_file
+from rezovamy_runs.store import location, run_folder, whole_file
+from rezovamy_runs.store.run_folder import Chosen, Store
 
 SUMMARY = "write a run as one HTML page: timeline, failures, outputs"
 TAKES_REST = False
@@ -57,14 +59,32 @@ def add_options(parser: argparse.ArgumentParser) -> None:
 def run(words: argparse.Namespace) -> int:
     """Write the page, and print where it is."""
     options = options_of(Options, words)
-    path = run_folder.here().find(options.run)
-    text = document.page_of(path, options.most_output, options.source)
+    runs = run_folder.here()
+    chosen = runs.find_all(options.run)
+    text, own = page_of(runs, chosen, options)
     if options.to == STANDARD_OUTPUT:
         print_page(text)
     else:
-        target = pathlib.Path(options.to) if options.to else beside(path)
+        target = pathlib.Path(options.to) if options.to else own
         print_out(f"{written(text, target)}\n")
     return 0
+
+
+def page_of(runs: Store, chosen: Chosen, options: Options) -> tuple[str, pathlib.Path]:
+    """Return the page of a run, or of a group's runs, and where it goes if no file is named."""
+    first = chosen.paths[0]
+    if chosen.group is None:
+        return page_text(runs, first, options.most_output, options.source), beside(first)
+    name = f"group-{location.NOT_PLAIN.sub('_', chosen.group)}.html"
+    text = document.page_of_group(chosen.group, chosen.paths, options.most_output, options.source)
+    return text, first.parent / name
+
+
+def page_text(
+    runs: Store, path: pathlib.Path, most_output: int = MOST_OUTPUT, source: str | None = None
+) -> str:
+    """Return the page of the bundle at a path, with what the history of the runs says."""
+    return document.page_of(path, most_output, source, page_past.past_of(runs, path))
 
 
 def print_page(text: str) -> None:
@@ -79,14 +99,14 @@ def beside(path: pathlib.Path) -> pathlib.Path:
     return bundle_file.beside(path, ".html")
 
 
-def written(text: str, target: pathlib.Path) -> pathlib.Path:
-    """Write a page, and return where it is."""
+def written(text: str, target: pathlib.Path, option: str = "--to") -> pathlib.Path:
+    """Write a page, and return where it is; `option` is the one that names another file."""
     try:
         write(document.bytes_of(text), target)
     except OSError as error:
         raise Fault(
             f"the page can't be written to {target}: {error.strerror}; "
-            "name another file with --to"
+            f"name another file with {option}"
         ) from error
     return target
 

@@ -14,7 +14,8 @@ MOST_RETRIES, MOST_SLOTS = 1000, 10_000
 # As long as libtest takes to say that a test runs for long.
 SLOW_AFTER = "60"
 # The options by their names among the words that were read.
-NAMES = ("retries", "timeout", "slow_after", "test_threads", "fail_fast", "setup")
+NAMES_WITH_SHARED = ("retries",)
+NAMES_ALONE = ("timeout", "slow_after", "test_threads", "fail_fast", "setup")
 
 
 def nanoseconds(word: str) -> int:
@@ -86,21 +87,21 @@ def options_of_run(words: argparse.Namespace) -> RunOptions:
     )
 
 
-def given(words: argparse.Namespace) -> str | None:
-    """Return an option that was given and is for processes alone, None where there is none."""
-    found = next((name for name in NAMES if getattr(words, name) is not None), None)
+def given(words: argparse.Namespace, names: tuple[str, ...]) -> str | None:
+    """Return the first of these options that was given, or None if there is none."""
+    found = next((name for name in names if getattr(words, name) is not None), None)
     return f"--{found.replace('_', '-')}" if found else None
 
 
 def refuse_with_shared(words: argparse.Namespace) -> None:
     """Refuse options that need a process for each test."""
-    found = given(words)
+    found = given(words, NAMES_ALONE)
     if found:
         raise Fault(f"{found} is for tests in processes of their own: leave out --shared", 2)
 
 
 def refuse_with_lines(words: argparse.Namespace) -> None:
     """Refuse options of a run beside the lines of one that is there."""
-    found = "--shared" if words.shared else given(words)
+    found = "--shared" if words.shared else given(words, NAMES_WITH_SHARED + NAMES_ALONE)
     if found:
         raise Fault(f"{found} is for a run, and --from reads one that is there: leave it out", 2)

@@ -5,11 +5,10 @@ from __future__ import annotations
 import argparse
 import contextlib
 import dataclasses
-import pathlib
 import shlex
 import sys
 
-from rezovamy_runs import terminal
+from rezovamy_runs import quarantine, terminal
 from rezovamy_runs.bundles import bundle
 from rezovamy_runs.command_line import add_run, options_of, print_lines, say
 from rezovamy_runs.faults.fault import Fault
@@ -17,7 +16,7 @@ from rezovamy_runs.formatting import moment
 from rezovamy_runs.model import Run, Test
 from rezovamy_runs.report.run_text import Printer
 from rezovamy_runs.store import groups, run_folder
-from rezovamy_runs.store.run_folder import LAST, Store
+from rezovamy_runs.store.run_folder import LAST, Chosen, Store
 
 SUMMARY = "show what failed in a run with its outputs, or one test"
 TAKES_REST = False
@@ -52,9 +51,10 @@ def run(words: argparse.Namespace) -> int:
     """Print the run, or the tests that are named."""
     options = options_of(Options, words)
     runs = run_folder.here()
-    paths, test = chosen(runs, options.run, options.test)
-    found = read(runs, paths, options.run)
-    printer = Printer(terminal.Paint(terminal.colours(sys.stdout)))
+    named_runs, test = chosen(runs, options.run, options.test)
+    found = read(runs, named_runs)
+    paint = terminal.Paint(terminal.colours(sys.stdout))
+    printer = Printer(paint, quarantine=quarantine.of(runs))
     if test is not None:
         tests = named(found, test)
         if not tests:
@@ -73,27 +73,23 @@ def run(words: argparse.Namespace) -> int:
     return 0
 
 
-def chosen(
-    runs: Store, first: str | None, second: str | None
-) -> tuple[list[pathlib.Path], str | None]:
-    """Return the bundles, several of a group, and the test that the words name."""
+def chosen(runs: Store, first: str | None, second: str | None) -> tuple[Chosen, str | None]:
+    """Return the runs, several of a group, and the test that the words name."""
     if first is None or second is not None:
         return runs.find_all(first or LAST), second
     if runs.names_run(first):
         return runs.find_all(first), None
-    return [runs.find(LAST)], first
+    return runs.find_all(LAST), first
 
 
-def read(runs: Store, paths: list[pathlib.Path], group: str | None) -> Run:
+def read(runs: Store, chosen_runs: Chosen) -> Run:
     """Return the run of a bundle, or that of a group; say what of a group isn't as it should be."""
-    found = [bundle.read_run(path) for path in paths]
-    if group is None or not runs.is_somewhere() or not runs.of_group(group):
+    found = [bundle.read_run(path) for path in chosen_runs.paths]
+    group = chosen_runs.group
+    if group is None:
         return found[0]
-    missing = groups.missing_shards(known.shard for known in map(runs.notes, paths) if known)
-    if missing:
-        say(f"rezovamy-runs: of {group} no run is there of shard {', '.join(map(str, missing))}")
-    for key in groups.ran_twice(found):
-        say(f"rezovamy-runs: several runs of {group} ran {key.binary} {key.test}")
+    for line in groups.doubts(group, found, map(runs.notes, chosen_runs.paths)):
+        say(f"rezovamy-runs: {line}")
     return groups.one_run(group, found)
 
 

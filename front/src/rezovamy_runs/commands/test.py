@@ -11,8 +11,7 @@ import sys
 from collections.abc import Callable
 from typing import BinaryIO
 
-from rezovamy_runs import recorder
-from rezovamy_runs import terminal
+from rezovamy_runs import formatting, quarantine, recorder, terminal
 from rezovamy_runs.answers import answer
 from rezovamy_runs.bundles import bundle
 from rezovamy_runs.collecting import cargo_call, chosen_tests
@@ -23,12 +22,13 @@ from rezovamy_runs.commands import junit as junit_command
 from rezovamy_runs.commands import page as page_command
 from rezovamy_runs.commands import note_options, run_options
 from rezovamy_runs.faults.fault import Fault
-from rezovamy_runs.page import document
+from rezovamy_runs.model import Run
 from rezovamy_runs.processes import guard
+from rezovamy_runs.quarantine import NOTHING, Quarantine
 from rezovamy_runs.report.run_text import Printer
 from rezovamy_runs.runner import run_facts
 from rezovamy_runs.runner.line_stream import LineStream
-from rezovamy_runs.runner.process_run import ProcessRun, Recordable
+from rezovamy_runs.runner.process_run import ProcessRun
 from rezovamy_runs.runner.progress import Progress
 from rezovamy_runs.runner.session_builder import Session, SessionBuilder
 from rezovamy_runs.store import run_folder, whole_session
@@ -127,7 +127,11 @@ def run(words: argparse.Namespace) -> int:
         note_options.refuse_shard(words)
     cargo_call.read(options.rest)
     outputs = outputs_of(words, runs, not options.shared)
-    of_run = dataclasses.replace(run_options.options_of_run(words), shard=outputs.notes.shard)
+    of_run = dataclasses.replace(
+        run_options.options_of_run(words),
+        shard=outputs.notes.shard,
+        quarantine=outputs.quarantine,
+    )
     process_run = ProcessRun([options.rest], of_run, options.profile, cli_args)
     return guarded_status(lambda: outputs.run(process_run))
 
@@ -135,7 +139,8 @@ def run(words: argparse.Namespace) -> int:
 def outputs_of(words: argparse.Namespace, runs: Store, splits: bool) -> Outputs:
     """Return where the run goes; `splits` tells that a shard of its tests may be run."""
     notes = note_options.notes(words, runs, splits)
-    return Outputs(runs, words.page, words.junit, notes, chosen_tests.chooses(words.rest))
+    excused, is_chosen = quarantine.of(runs), chosen_tests.chooses(words.rest)
+    return Outputs(runs, words.page, words.junit, notes, is_chosen, excused)
 
 
 def guarded_status(work: Callable[[], int]) -> int:
@@ -148,12 +153,13 @@ def guarded_status(work: Callable[[], int]) -> int:
     return 128 - status
 
 
-Judge = Callable[[Recordable], int]
+# Says the status of a command by that of its run, and the tests that ran.
+Judge = Callable[[int, Suites], int]
 
 
-def status_of(made: Recordable) -> int:
-    """Return the status of a run that was recorded."""
-    return made.status
+def same_status(status: int, suites: Suites) -> int:
+    """Return the status of a run."""
+    return status
 
 
 @dataclasses.dataclass(frozen=True)
@@ -166,6 +172,7 @@ class Outputs:
     notes: RunNotes
     # Whether words of cargo choose some of the tests.
     is_chosen: bool = False
+    quarantine: Quarantine = NOTHING
 
     def prepare(self) -> None:
         """Make the folder ready for a run that begins."""
@@ -174,14 +181,18 @@ class Outputs:
             junit_command.remove_older(self.runs)
 
     def keep(self, session: Session) -> int:
-        """Record a session, print what came of it, and return the status of its tests."""
+        """Record a session, print what came of it, and return the status of its tests.
+
+        A quarantine doesn't change it: what else cargo would have run isn't known.
+        """
         with self.runs.recording(session.run_id):
             self.runs.note(session.run_id, self._notes_of(session.suites))
-            return self._keep(
+            self._keep(
                 session.status, lambda: whole_session.record(self.runs, session), has_told=False
             )
+        return session.status
 
-    def run(self, process_run: ProcessRun, judge: Judge = status_of) -> int:
+    def run(self, process_run: ProcessRun, judge: Judge = same_status) -> int:
         """Run tests as processes, record the run, and return what `judge` says of it.
 
         It is cargo's status if the build failed.
@@ -190,10 +201,10 @@ class Outputs:
         try:
             with self.runs.recording(process_run.run_id):
                 made = process_run.run(self.runs, self._notes_of)
-                self._keep(made.status, made.record, is_one_reader())
+                status = self._keep(made.status, made.record, is_one_reader())
         except BuildFailed as failed:
             return failed.status
-        return judge(made)
+        return judge(status, made.suites)
 
     def _notes_of(self, suites: Suites, build_seconds: float | None = None) -> RunNotes:
         """Return what is known of a run with these tests."""
@@ -202,14 +213,20 @@ class Outputs:
         return dataclasses.replace(self.notes, part=part, build_seconds=build_seconds)
 
     def _keep(self, status: int, record: Callable[[], pathlib.Path], has_told: bool) -> int:
-        """Record a run that ended with a status, and print what came of it.
+        """Record a run that ended with a status, print what came of it, and return its status.
 
-        If `has_told`, what failing tests printed has been printed for the same reader.
+        It is 0 if only tests in quarantine failed. If `has_told`, what failing tests printed has
+        been printed for the same reader.
         """
         recorder.hear_signals()
         try:
             path = record()
-            print_out(summary_of(self.runs, path, has_told))
+            run = bundle.read_run(path)
+            status = self.quarantine.status(run, status)
+            print_out(self._summary_of(run, path, has_told))
+            is_whole = not (self.is_chosen or self.notes.parent or self.notes.shard)
+            for line in self.quarantine.remarks(run, is_whole):
+                say(f"rezovamy-runs: {formatting.name(line)}")
             self._write_more(path)
         except (Fault, OSError) as error:
             if status == 0:
@@ -218,13 +235,35 @@ class Outputs:
             raise Fault(f"the tests failed, and besides: {said}", status) from error
         return status
 
+    def _summary_of(self, run: Run, path: pathlib.Path, has_told: bool) -> str:
+        """Return what is printed of a run that was recorded.
+
+        If `has_told`, failures are only named.
+        """
+        paint = terminal.Paint(terminal.colours(sys.stdout))
+        printer = Printer(paint, MOST_LINES, not has_told, self.quarantine)
+        prefix = self.runs.prefixes().get(run.id, run.id)
+        lines = [
+            *printer.failures(run.tests),
+            *printer.never_started(run),
+            *printer.slowest(run),
+            printer.end(run),
+            f"recorded as {prefix} in {path}",
+        ]
+        return "".join(f"{line}\n" for line in lines)
+
     def _write_more(self, path: pathlib.Path) -> None:
         """Write what else is asked for of a run that was recorded, and print where it is."""
         if self.page:
-            page = page_command.written(document.page_of(path), page_command.beside(path))
+            page = page_command.written(
+                page_command.page_text(self.runs, path), page_command.beside(path)
+            )
             print_out(f"{page}\n")
         if self.junit:
-            junit_command.write_beside([path], self.runs)
+            paths = [path]
+            if self.notes.parent:
+                paths = self.runs.with_reruns(self.runs.first_in_row(path))
+            junit_command.write_beside(paths, self.runs)
 
 
 class Following:
@@ -279,22 +318,3 @@ def read_lines(options: Options, source: str) -> Session:
 def is_one_reader() -> bool:
     """Tell whether both outputs are for one reader: both are a terminal, or none is."""
     return terminal.is_terminal(sys.stdout) == terminal.is_terminal(sys.stderr)
-
-
-def summary_of(runs: run_folder.Store, path: pathlib.Path, has_told: bool) -> str:
-    """Return what is printed of a run that was recorded.
-
-    If `has_told`, failures are only named.
-    """
-    run = bundle.read_run(path)
-    paint = terminal.Paint(terminal.colours(sys.stdout))
-    printer = Printer(paint, MOST_LINES, with_outputs=not has_told)
-    prefix = runs.prefixes().get(run.id, run.id)
-    lines = [
-        *printer.failures(run.tests),
-        *printer.never_started(run),
-        *printer.slowest(run),
-        printer.end(run),
-        f"recorded as {prefix} in {path}",
-    ]
-    return "".join(f"{line}\n" for line in lines)

@@ -24,6 +24,11 @@ class Kind(enum.IntEnum):
     ALWAYS_FAILS = 2
     ALWAYS_PASSES = 3
 
+    @property
+    def word(self) -> str:
+        """Return what scripts and addresses call it: `at-one-commit`."""
+        return self.name.lower().replace("_", "-")
+
 
 @dataclasses.dataclass(frozen=True, slots=True)
 class Tally:

@@ -5,8 +5,10 @@ Also the words by which each binary runs again.
 
 from __future__ import annotations
 
+import dataclasses
 import re
 import shlex
+from collections.abc import Sequence
 from typing import NotRequired, TypedDict
 
 from rezovamy_runs import formatting
@@ -65,6 +67,14 @@ def fact(name: str, text: str | None, *, link: str | None = None, brief: bool = 
     if brief:
         made["brief"] = True
     return made
+
+
+def group_notes(notes: Sequence[RunNotes]) -> RunNotes | None:
+    """Return what the runs of a group have in common, with all their hosts; None of no notes."""
+    if not notes:
+        return None
+    hosts = ", ".join(sorted({one.host for one in notes if one.host}))
+    return dataclasses.replace(notes[0], shard=None, host=hosts or None, build_seconds=None)
 
 
 def commit_text(notes: RunNotes) -> str | None:

@@ -7,15 +7,17 @@ page spells. A member that has nothing to say is left out.
 
 from __future__ import annotations
 
+import dataclasses
 import json
-from collections.abc import Iterable
+from collections.abc import Sequence
 from typing import Literal, NotRequired, TypeAlias, TypedDict
 
 from rezovamy_runs import formatting
-from rezovamy_runs.bundles.slices import Drawing, Span
-from rezovamy_runs.model import Attempt, Run, Script, Status, Test, TestName, Verdict
+from rezovamy_runs.model import Attempt, Run, Script, Status, Test, Verdict
 from rezovamy_runs.page.about import PageCommand, PageFact, command_of, facts_of
+from rezovamy_runs.page.bands import PageBand
 from rezovamy_runs.page.causes import PageCause, cause_of, grouped
+from rezovamy_runs.page.past import PagePast, Past, page_past
 from rezovamy_runs.store.notes import RunNotes
 
 State: TypeAlias = Literal["failed", "unfinished", "flaky", "passed", "skipped", "script"]
@@ -91,6 +93,8 @@ class PageData(TypedDict):
     pauses: list[tuple[int, int]]
     marks: list[tuple[int, str]]
     end: int
+    bands: list[PageBand]
+    past: PagePast | None
 
 
 STATES: dict[Verdict, State] = {
@@ -198,10 +202,8 @@ def placed_outputs(attempt: Attempt, outputs: Outputs) -> list[tuple[str, int]]:
     ]
 
 
-def page_attempt(
-    attempt: Attempt, span: Span | None, drawing: Drawing, outputs: Outputs
-) -> PageAttempt:
-    """Return an attempt, with the slices of its span, if it has one."""
+def page_attempt(attempt: Attempt, begin: int, outputs: Outputs) -> PageAttempt:
+    """Return an attempt; its instants count from the run's begin."""
     has_ended = attempt.ended is not None
     placed = placed_outputs(attempt, outputs)
     made: PageAttempt = {
@@ -219,43 +221,22 @@ def page_attempt(
         made["error"] = outputs.error(attempt.errors)
     if placed:
         made["outputs"] = placed
-    slot = span.slot if span else attempt.slot
-    if slot is not None:
-        made["slot"] = slot
+    if attempt.slot is not None:
+        made["slot"] = attempt.slot
     if has_ended:
-        made["seconds"] = round(active_seconds(attempt, span), 9)
-    if span:
-        add_times(made, span, drawing)
+        made["seconds"] = round(active_seconds(attempt), 9)
+    if attempt.slices:
+        made["slices"] = [time - begin for piece in attempt.slices for time in piece]
+    if attempt.slow_at:
+        made["slow_at"] = [time - begin for time in attempt.slow_at]
     return made
 
 
-def active_seconds(attempt: Attempt, span: Span | None) -> float:
+def active_seconds(attempt: Attempt) -> float:
     """Return how long an attempt ran, without the pauses that cut it."""
-    if span is None or len(span.slices) < 2:
+    if attempt.active is None or len(attempt.slices) < 2:
         return attempt.seconds
-    return sum(end - begin for begin, end in span.slices) / 10**6
-
-
-def add_times(made: PageAttempt, span: Span, drawing: Drawing) -> None:
-    """Add to an attempt when it ran, and when it was said to be slow."""
-    if span.slices:
-        made["slices"] = [time - drawing.begin for piece in span.slices for time in piece]
-    if span.slow:
-        made["slow_at"] = [time - drawing.begin for time in span.slow]
-
-
-class SpanQueues:
-    """The spans of a drawing, of which each test takes those of its attempts in their order."""
-
-    def __init__(self, drawing: Drawing) -> None:
-        self.queues: dict[TestName, list[list[Span]]] = {
-            names: list(times) for names, times in drawing.tests.items()
-        }
-
-    def take(self, test: Test) -> dict[int, Span]:
-        """Return the spans of a test's attempts by their numbers."""
-        queue = self.queues.get(test.key)
-        return {span.number: span for span in queue.pop(0)} if queue and test.attempts else {}
+    return attempt.active
 
 
 class Binaries:
@@ -269,10 +250,8 @@ class Binaries:
         return self.places.setdefault(binary, len(self.places))
 
 
-def page_test(
-    test: Test, spans: dict[int, Span], drawing: Drawing, outputs: Outputs, binaries: Binaries
-) -> PageTest:
-    """Return a test with its attempts, of which spans are known by their numbers."""
+def page_test(test: Test, begin: int, outputs: Outputs, binaries: Binaries) -> PageTest:
+    """Return a test with its attempts."""
     made: PageTest = {"name": test.name, "state": STATES[test.verdict]}
     made["binary"] = binaries.place(test.binary)
     if test.reason:
@@ -281,29 +260,24 @@ def page_test(
         made["stress"] = test.stress
     if test.flaky_fails:
         made["flaky_fails"] = True
-    attempts = [
-        page_attempt(attempt, spans.get(attempt.number), drawing, outputs)
-        for attempt in test.attempts
-    ]
+    attempts = [page_attempt(attempt, begin, outputs) for attempt in test.attempts]
     if attempts:
         made["attempts"] = attempts
     return made
 
 
 def page_tests(
-    tests: Iterable[Test], drawing: Drawing, outputs: Outputs, binaries: Binaries
+    tests: Sequence[Test], begin: int, outputs: Outputs, binaries: Binaries
 ) -> list[PageTest]:
     """Return the tests; those that matter more have the first go at the room for outputs."""
-    queues = SpanQueues(drawing)
-    matched = [(test, queues.take(test)) for test in tests]
     by_urgency = sorted(
-        range(len(matched)), key=lambda place: URGENCY.index(STATES[matched[place][0].verdict])
+        range(len(tests)), key=lambda place: URGENCY.index(STATES[tests[place].verdict])
     )
-    made = {place: page_test(*matched[place], drawing, outputs, binaries) for place in by_urgency}
-    return [made[place] for place in range(len(matched))]
+    made = {place: page_test(tests[place], begin, outputs, binaries) for place in by_urgency}
+    return [made[place] for place in range(len(tests))]
 
 
-def page_script(script: Script, span: Span, drawing: Drawing, outputs: Outputs) -> PageTest:
+def page_script(script: Script, begin: int, outputs: Outputs) -> PageTest:
     """Return a setup script."""
     made: PageTest = {
         "name": script.id,
@@ -312,7 +286,9 @@ def page_script(script: Script, span: Span, drawing: Drawing, outputs: Outputs) 
     }
     if script.stress is not None:
         made["stress"] = script.stress
-    made["attempts"] = [page_attempt(script.attempt, span, drawing, outputs)]
+    # In the timeline each script has a row of its own.
+    attempt = dataclasses.replace(script.attempt, slot=script.index)
+    made["attempts"] = [page_attempt(attempt, begin, outputs)]
     return made
 
 
@@ -374,18 +350,19 @@ def causes_of(run: Run) -> list[PageCause]:
 
 def page_data(
     run: Run,
-    drawing: Drawing,
     outputs: Outputs,
     notes: RunNotes | None = None,
     source: str | None = None,
+    past: Past | None = None,
 ) -> PageData:
-    """Return all that a page knows of a run; `source` is the pattern of links to its sources."""
+    """Return all that a page knows of a run.
+
+    `source` is the pattern of links to its sources, and `past` how its tests ended before.
+    """
     binaries = Binaries()
-    scripts = [
-        page_script(script, span, drawing, outputs)
-        for script, span in zip(run.scripts, drawing.scripts)
-    ]
-    tests = scripts + page_tests(run.tests, drawing, outputs, binaries)
+    begin, end = run.extent
+    scripts = [page_script(script, begin, outputs) for script in run.scripts]
+    tests = scripts + page_tests(run.tests, begin, outputs, binaries)
     return {
         "run": page_run(run),
         "facts": facts_of(notes),
@@ -396,10 +373,11 @@ def page_data(
         "causes": causes_of(run),
         "outputs": outputs.kept,
         "notes": notes_of(run, outputs),
-        "pauses": [(begin - drawing.begin, end - drawing.begin) for begin, end in drawing.pauses],
+        "pauses": [(since - begin, until - begin) for since, until in run.pauses],
         "marks": [
-            (time - drawing.begin, f"cancelled: {reason_text(reason)}")
-            for time, reason in drawing.cancellations
+            (one.at - begin, f"cancelled: {reason_text(one.reason)}") for one in run.cancellations
         ],
-        "end": drawing.end - drawing.begin,
+        "end": end - begin,
+        "bands": [],
+        "past": page_past(past, run.tests) if past else None,
     }

@@ -3,17 +3,21 @@
 from __future__ import annotations
 
 import base64
+import dataclasses
 import hashlib
 import html
 import json
 import pathlib
 import re
+from collections.abc import Sequence
 
 from rezovamy_runs import formatting, terminal
 from rezovamy_runs.bundles import bundle
-from rezovamy_runs.bundles.slices import draw
-from rezovamy_runs.page.about import source_pattern
+from rezovamy_runs.page.about import group_notes, source_pattern
+from rezovamy_runs.page.bands import band_name, banded
 from rezovamy_runs.page.data import MOST_OUTPUT, Outputs, PageData, page_data
+from rezovamy_runs.page.past import Past
+from rezovamy_runs.store import groups
 from rezovamy_runs.store import notes as run_notes
 
 PARTS = pathlib.Path(__file__).resolve().parent / "assets"
@@ -22,8 +26,11 @@ LONGEST_PROFILE = 50
 # In the order in which they need one another.
 SCRIPTS = (
     "text",
+    "states",
     "sources",
     "copying",
+    "links",
+    "theme",
     "data",
     "head",
     "list",
@@ -32,6 +39,7 @@ SCRIPTS = (
     "selection",
     "pointing",
     "address",
+    "past",
     "details",
     "overview",
     "main",
@@ -48,9 +56,30 @@ def embedded_json(value: object) -> str:
     return text.replace("<", "\\u003c").replace(">", "\\u003e").replace("&", "\\u0026")
 
 
+@dataclasses.dataclass(frozen=True)
+class Assets:
+    """The files of which a page is made; scripts are in the order in which they need each other."""
+
+    frame: pathlib.Path
+    styles: tuple[pathlib.Path, ...]
+    scripts: tuple[pathlib.Path, ...]
+
+
+def path_of(name: str) -> pathlib.Path:
+    """Return the path of a file of which pages are made."""
+    return PARTS / name
+
+
 def part(name: str) -> str:
     """Return the text of a file of which pages are made."""
-    return (PARTS / name).read_text(encoding="utf-8")
+    return path_of(name).read_text(encoding="utf-8")
+
+
+ASSETS = Assets(
+    path_of("page.html"),
+    (path_of("style.css"),),
+    tuple(path_of(f"{name}.js") for name in SCRIPTS),
+)
 
 
 def policy_hash(text: str) -> str:
@@ -95,38 +124,66 @@ def page_title(value: PageData) -> str:
     return f"{told} · {terminal.cut(profile, LONGEST_PROFILE)} · {value['run']['when']}"
 
 
-def joined_scripts() -> str:
-    """Return the script of all pages, whose parts share their names and hide them from others."""
-    parts = "\n".join(part(f"{name}.js") for name in SCRIPTS)
+def joined_scripts(assets: Assets) -> str:
+    """Return the script of a page, whose parts share their names and hide them from others."""
+    parts = "\n".join(path.read_text(encoding="utf-8") for path in assets.scripts)
     return f'(() => {{\n"use strict";\n{parts}}})();\n'
 
 
-def page_html(value: PageData) -> str:
-    """Return the page of a value that `page_data` made."""
-    style, script = part("style.css"), joined_scripts()
+def html_of(assets: Assets, title: str, value: object) -> str:
+    """Return the page that these files make of a value, with a title for its window."""
+    style = "".join(path.read_text(encoding="utf-8") for path in assets.styles)
+    script = joined_scripts(assets)
     parts = {
-        "title": html.escape(page_title(value)),
+        "title": html.escape(title),
         "policy": html.escape(content_policy(script, style), quote=False),
         "style": style,
         "script": script,
         "data": embedded_json(value),
     }
-    return PLACE_IN_TEMPLATE.sub(lambda match: parts[match[1]], part("page.html"))
+    frame = assets.frame.read_text(encoding="utf-8")
+    return PLACE_IN_TEMPLATE.sub(lambda match: parts[match[1]], frame)
 
 
-def page_of(path: pathlib.Path, most_output: int = MOST_OUTPUT, source: str | None = None) -> str:
+def page_html(value: PageData) -> str:
+    """Return the page of a value that `page_data` made."""
+    return html_of(ASSETS, page_title(value), value)
+
+
+def page_of(
+    path: pathlib.Path,
+    most_output: int = MOST_OUTPUT,
+    source: str | None = None,
+    past: Past | None = None,
+) -> str:
     """Return the page of the bundle at a path, with what its notes say.
 
-    `source` is the pattern of links to the sources of its tests.
+    `source` is the pattern of links to the sources of its tests, `past` how these ended before.
     """
     notes = run_notes.read(run_notes.path_beside(path))
     pattern = source_pattern(source, notes)
+    run = bundle.read_run(path)
+    return page_html(page_data(run, Outputs(most_output), notes, pattern, past))
 
-    def value_of(opened: bundle.Bundle) -> PageData:
-        outputs = Outputs(most_output)
-        return page_data(opened.run(True), draw(opened.lines()), outputs, notes, pattern)
 
-    return page_html(bundle.read(path, value_of))
+def page_of_group(
+    name: str,
+    paths: Sequence[pathlib.Path],
+    most_output: int = MOST_OUTPUT,
+    source: str | None = None,
+) -> str:
+    """Return the page of the runs of a group as one, each in a band of the timeline."""
+    runs = sorted(map(bundle.read_run, paths), key=lambda run: (run.started, run.id))
+    notes = [run_notes.read(run_notes.path_beside(run.bundle)) for run in runs]
+    moved, bands = banded(runs, list(map(band_name, runs, notes)))
+    known = group_notes([one for one in notes if one])
+    pattern = source_pattern(source, known)
+    whole = groups.one_run(name, moved)
+    value = page_data(whole, Outputs(most_output), known, pattern)
+    value["bands"] = bands
+    doubts = (f"{line[0].upper()}{line[1:]}." for line in groups.doubts(name, runs, notes))
+    value["notes"] = [*doubts, *value["notes"]]
+    return page_html(value)
 
 
 def bytes_of(text: str) -> bytes:

@@ -32,7 +32,7 @@ class Job:
     With `log_file`, the runner adds `--logfile FILE` to the words. An attempt passes then if it
     exits with 0 and the file says `ok NAME`. Without it, the summary at the end of standard output
     must say that one test passed. If `runs_tests` is false, as for a target without libtest, only
-    the exit status counts.
+    the exit status counts. With `may_fail`, its failure isn't one at which a run is to end.
     """
 
     binary_id: str
@@ -40,6 +40,7 @@ class Job:
     program: Program
     log_file: bool = False
     runs_tests: bool = True
+    may_fail: bool = False
 
 
 @dataclasses.dataclass(frozen=True)

@@ -26,6 +26,12 @@ class Capture:
         rest = data[room:]
         self._last = (rest if len(rest) >= LAST else self._last + rest)[-LAST:]
 
+    def add(self, other: Captured) -> None:
+        """Add what was kept of another output, which has the same limit."""
+        self.feed(other.first)
+        self._length += other.left_out
+        self.feed(other.last)
+
     def captured(self, prefix: bytes = b"") -> Captured:
         """Return what was kept, without a prefix if it begins with it."""
         cut = len(prefix) if self._first.startswith(prefix) else 0

@@ -176,5 +176,6 @@ class Run:
             yield from self._start(dataclasses.replace(place, attempt=again))
             return
         heapq.heappush(self._free_slots, place.slot)
-        if failed and self._settings.fail_fast and not self._supervisor.cancelled:
+        ends_run = failed and self._settings.fail_fast and not place.job.may_fail
+        if ends_run and not self._supervisor.cancelled:
             yield self._supervisor.cancel(CancelReason.TEST_FAILURE)

@@ -5,11 +5,11 @@ from __future__ import annotations
 import dataclasses
 import functools
 import heapq
-from collections.abc import Iterator
+from collections.abc import Generator, Iterator
 
 from rezovamy_runs.processes.attempt import Limits
 from rezovamy_runs.processes.child import STANDARD_ERROR, STANDARD_OUTPUT
-from rezovamy_runs.processes.event_lines import EventLines, LogLines
+from rezovamy_runs.processes.event_lines import EventLine, EventLines, LogLines
 from rezovamy_runs.processes.jobs import (
     Captured,
     Ended,
@@ -31,9 +31,9 @@ from rezovamy_runs.processes.supervisor import CalledSlow, Notice, Over, Supervi
 from rezovamy_runs.processes.tries import LOG_FILE_WARNING, Try, not_started
 from rezovamy_runs.processes.verdicts import LIBTEST_FAILED, by_test
 from rezovamy_runs.streams.messages import TestEvent
-from rezovamy_runs.streams.texts import to_bytes
 
 LOST = "another test broke the line that has its output, so the output is missing"
+CANCELLED = "the run was cancelled before this attempt started"
 ENDINGS = {"ok": Verdict.PASSED, "failed": Verdict.FAILED}
 EXITS = {Verdict.PASSED: Exit(0), Verdict.FAILED: Exit(LIBTEST_FAILED)}
 MOST_NAMES = 9
@@ -53,7 +53,8 @@ class SharedRun:
     """The run of a group, as the events that happen.
 
     A result is that of the log file. A test without one, whose process has ended, runs once more by
-    itself. Only what fails then has failed.
+    itself. Only what fails then has failed. What failed is tried again by itself too, after the
+    process has ended, since it may share state with what runs there.
     """
 
     def __init__(
@@ -66,6 +67,9 @@ class SharedRun:
         self._free_slots: list[int] = []
         self._slow: set[str] = set()
         self._failed = 0
+        self._total_attempts = settings.retries + 1
+        # Failed in the process, and tried again once that has ended.
+        self._tried_again: list[Job] = []
         self._lines = EventLines(settings.output_limit)
         self._stderr = Capture(settings.output_limit)
         self._log = Log() if group.log_file else None
@@ -107,23 +111,25 @@ class SharedRun:
 
     def _read_events(self, at: int) -> Iterator[Event]:
         """Read what the process has told."""
-        for event, line in self._lines.events():
-            told = list(self._told(event, at))
+        for found in self._lines.events():
+            told = list(self._told(found, at))
             yield from told
-            if not told and event.name not in self._group.others:
-                self._lines.text.feed(line)
+            if not told and found.event.name not in self._group.others:
+                self._lines.text.add(found.line)
 
-    def _told(self, event: TestEvent, at: int) -> Iterator[Event]:
+    def _told(self, found: EventLine, at: int) -> Iterator[Event]:
         """Return what an event tells; nothing if it isn't believed."""
+        event = found.event
         running = self._running.get(event.name)
         if event.kind == "started" and event.name in self._waiting:
             yield self._start(event.name, at)
         elif running and event.kind == "timeout":
             self._slow.add(event.name)
             elapsed = self._process.elapsed(at) - running.process_elapsed
-            yield Slow(running.job, 1, 1, elapsed, False, at)
+            yield Slow(running.job, 1, self._total_attempts, elapsed, False, at)
         elif running and self._is_result(event):
-            yield self._end(running, ENDINGS[event.kind], at, event)
+            error = event.message or ""
+            yield self._end(running, ENDINGS[event.kind], at, found.output, error)
 
     def _is_result(self, event: TestEvent) -> bool:
         """Tell whether an event is the end of a test, as the log file has it."""
@@ -141,36 +147,50 @@ class SharedRun:
         job, used = self._waiting.pop(name), len(self._running)
         slot = heapq.heappop(self._free_slots) if self._free_slots else used
         self._running[name] = Running(job, slot, at, self._process.elapsed(at))
-        return Started(job, 1, 1, slot, at)
+        return Started(job, 1, self._total_attempts, slot, at)
 
     def _end(
-        self, running: Running, verdict: Verdict, at: int, event: TestEvent | None = None
+        self, running: Running, verdict: Verdict, at: int, output: Captured, error: str
     ) -> Ended:
         """End a test whose result is known."""
-        output = Capture(self._settings.output_limit)
-        output.feed(to_bytes(event.output or "") if event else b"")
         ending = Ending(
             verdict,
             EXITS[verdict],
             running.started,
             max(0, self._process.elapsed(at) - running.process_elapsed),
-            output.captured(),
+            output,
             is_slow=running.job.test_name in self._slow,
-            error=event.message or "" if event else "" if verdict is Verdict.PASSED else LOST,
+            error=error,
             is_combined=True,
         )
         self._failed += verdict is not Verdict.PASSED
         return self._ended(running, ending)
 
     def _ended(self, running: Running, ending: Ending) -> Ended:
-        """Take a test off its slot."""
+        """Take a test off its slot, and note it if it is tried again."""
         del self._running[running.job.test_name]
         heapq.heappush(self._free_slots, running.slot)
-        return Ended(running.job, 1, 1, running.slot, ending, None, self._loop.now())
+        ended = self._attempt_ended(running.job, 1, running.slot, ending)
+        if ended.next_attempt:
+            self._tried_again.append(running.job)
+        return ended
+
+    def _attempt_ended(self, job: Job, attempt: int, slot: int, ending: Ending) -> Ended:
+        """Return the end of an attempt, which another one follows if it failed."""
+        total = self._total_attempts
+        is_last = attempt == total or self._supervisor.cancelled is not None
+        again = None if is_last or ending.verdict is Verdict.PASSED else attempt + 1
+        return Ended(job, attempt, total, slot, ending, again, self._loop.now())
 
     def _finish(self, outcome: Exit) -> Iterator[Event]:
         """See to what the process left, which ended so."""
         yield from self._end_by_log()
+        yield from self._settle(outcome)
+        for job in self._tried_again:
+            yield from self._try_again(job)
+
+    def _settle(self, outcome: Exit) -> Iterator[Event]:
+        """Run the suspects of a crash by themselves, and tell what is said of the process."""
         suspects, failed = list(self._running.values()), self._failed
         for running in suspects:
             if self._supervisor.cancelled:
@@ -195,13 +215,36 @@ class SharedRun:
             if verdict and name in self._waiting:
                 yield self._start(name, now)
             if verdict:
-                yield self._end(self._running[name], verdict, now)
+                error = "" if verdict is Verdict.PASSED else LOST
+                yield self._end(self._running[name], verdict, now, Captured(), error)
 
     def _run_alone(
         self, running: Running, suspects: list[Running], outcome: Exit
     ) -> Iterator[Event]:
-        """Run a test by itself."""
-        job, now = running.job, self._loop.now()
+        """Run a suspect by itself."""
+        ending = yield from self._alone(running.job)
+        if ending.verdict is Verdict.PASSED:
+            said = f"ran beside a crash: its process {how(outcome)}{beside(running, suspects)}"
+            ending = dataclasses.replace(ending, error=f"{said}; by itself it passed")
+        else:
+            self._failed += 1
+        yield self._ended(running, ending)
+
+    def _try_again(self, job: Job) -> Iterator[Event]:
+        """Run a test by itself until it passes or has no attempt left."""
+        next_attempt: int | None = 2
+        while next_attempt:
+            yield Started(job, next_attempt, self._total_attempts, 0, self._loop.now())
+            ending = yield from self._alone(job)
+            ended = self._attempt_ended(job, next_attempt, 0, ending)
+            next_attempt = ended.next_attempt
+            yield ended
+
+    def _alone(self, job: Job) -> Generator[Event, None, Ending]:
+        """Run a test by itself, and return how it ended."""
+        now = self._loop.now()
+        if self._supervisor.cancelled:
+            return Ending(Verdict.EXEC_FAILED, None, now, 0, error=CANCELLED)
         tried = Try(self._supervisor, self._settings, functools.partial(by_test, job))
         ending: Ending | None = None
         try:
@@ -214,12 +257,7 @@ class SharedRun:
                 ending = ending or ended
                 if not isinstance(notice, Over | CalledSlow):
                     yield notice
-        if ending.verdict is Verdict.PASSED:
-            said = f"ran beside a crash: its process {how(outcome)}{beside(running, suspects)}"
-            ending = dataclasses.replace(ending, error=f"{said}; by itself it passed")
-        else:
-            self._failed += 1
-        yield self._ended(running, ending)
+        return ending
 
     def _fault(self, suspects: list[Running], outcome: Exit) -> str:
         """Return why the process itself failed; nothing if it ended as its tests did."""

@@ -1,7 +1,7 @@
-"""What the events of a run say beside its report.
+"""What is known of a run beside its report.
 
-That is what never ended, whether the run was broken off, and why tests are ignored. The events
-stand in a bundle, or in the session of which the bundle was made.
+That is what never ended, whether the run was broken off, and why tests are ignored. It is read
+from the run's view, or from the events of the session that its bundle was made of.
 """
 
 from __future__ import annotations
@@ -11,11 +11,8 @@ import json
 from collections.abc import Mapping
 from typing import NamedTuple
 
-from rezovamy_runs.bundles import bundle_file
-from rezovamy_runs.bundles.bundle import LOG
-from rezovamy_runs.bundles.container import MAGIC, Unreadable, entry
-from rezovamy_runs.bundles.events import stress_of, test_of, unseen_of
-from rezovamy_runs.json_values import Members, WrongMember, members_of
+from rezovamy_runs.json_values import Members, members_of
+from rezovamy_runs.model import Attempt, Run, Test, TestName, Verdict
 from rezovamy_runs.report.run_report import Instant, instant_of
 
 STRESS = "@stress-"
@@ -95,11 +92,68 @@ class RunReader:
         )
 
 
-def test_key(event: Members) -> TestKey:
-    """Return the key of the test that an event is of."""
-    test, stress = test_of(event), stress_of(event)
+def of_run(run: Run) -> RunEvents:
+    """Return what the view of a run says beside its report."""
+    unfinished = [test for test in run.tests if test.verdict is Verdict.UNFINISHED]
+    missing: dict[TestKey, Instant | None] = {
+        key_of(test): start_of(test.attempts[-1]) for test in unfinished if test.attempts
+    }
+    return RunEvents(
+        run.id,
+        run.cancelled_for,
+        {},
+        {**missing, **{TestKey(*name): None for name in run.never_started}},
+        {key_of(test): messages_of(test) for test in unfinished},
+        run.unnamed,
+    )
+
+
+def key_of(test: Test) -> TestKey:
+    """Return the key of a test."""
+    return keyed(test.key, test.stress)
+
+
+def keyed(test: TestName, stress: int | None) -> TestKey:
+    """Return the key of a test that ran in a sub-run, None outside a stress run."""
     sub_run = "" if stress is None else f"{STRESS}{stress}"
     return TestKey(test.binary + sub_run, test.test)
+
+
+def start_of(attempt: Attempt) -> Instant:
+    """Return the instant at which an attempt started, to the microsecond."""
+    seconds, micros = divmod(round(attempt.started * 1e6), 10**6)
+    return Instant(seconds, 1000 * micros, 0)
+
+
+def messages_of(test: Test) -> tuple[str, ...]:
+    """Return what went wrong in the attempts of a test that failed, in a line each."""
+    failed = [attempt for attempt in test.attempts if attempt.ended is not None]
+    return tuple(next(iter((one.errors or "").splitlines()), NO_MESSAGE) for one in failed)
+
+
+def test_name(members: Members) -> TestName:
+    """Return the name of a test."""
+    return TestName(members.text("binary-id"), members.text("test-name"))
+
+
+def stress_of(event: Members) -> int | None:
+    """Return the number of the sub-run of an event, None outside a stress run."""
+    index = event.optional_inner("stress-index")
+    return index.whole_number("current") if index else None
+
+
+def unseen_of(run_end: Members) -> tuple[int, tuple[TestName, ...]]:
+    """Return how many tests never started or never ended by a run's end, and the named ones."""
+    unseen = run_end.optional_inner("outstanding-not-seen")
+    if unseen is None:
+        return 0, ()
+    names = tuple(map(test_name, unseen.inner_list("not-seen")))
+    return unseen.whole_number("total-not-seen"), names
+
+
+def test_key(event: Members) -> TestKey:
+    """Return the key of the test that an event is of."""
+    return keyed(test_name(event.inner("test-instance")), stress_of(event))
 
 
 def short_message(event: Members) -> str:
@@ -109,25 +163,15 @@ def short_message(event: Members) -> str:
     return NO_MESSAGE if message is None else message
 
 
-def log_lines(data: bytes) -> list[bytes]:
-    """Return the lines of a bundle's log, or those of a session after its head."""
-    if not data.startswith(MAGIC):
-        return data.split(b"\n")[1:]
-    log = entry(data, LOG)
-    if log is None:
-        raise WrongMember("it has no log")
-    return log.split(b"\n")
-
-
-def runs_of(data: bytes) -> list[RunEvents]:
-    """Return the runs that ended in a session or a bundle, in the order of its reports."""
+def of_session(data: bytes) -> list[RunEvents]:
+    """Return the runs that ended in a session, in the order of its reports."""
     runs, reader = [], RunReader()
     try:
-        for line in log_lines(bundle_file.plain_bytes(data)):
+        for line in data.split(b"\n")[1:]:
             run = reader.read(members_of(json.loads(line))) if line.strip() else None
             if run is not None:
                 runs.append(run)
                 reader = RunReader()
-    except (RecursionError, Unreadable, ValueError) as error:
+    except (RecursionError, ValueError) as error:
         raise NoEvents(f"no session and no bundle: {error}") from error
     return runs

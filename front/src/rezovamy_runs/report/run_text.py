@@ -21,6 +21,7 @@ from rezovamy_runs.model import (
     TestName,
     Verdict,
 )
+from rezovamy_runs.quarantine import NOTHING, WORD, Quarantine
 from rezovamy_runs.terminal import Colour, Paint
 
 RESULTS: dict[Result, tuple[str, Colour]] = {
@@ -52,12 +53,14 @@ class Printer:
     """Makes lines of a run.
 
     Outputs longer than `most_lines` lose their middle, if that is given, and so do very long
-    lines. Without `with_outputs` no output is in the lines.
+    lines. Without `with_outputs` no output is in the lines. Failures of tests in `quarantine` are
+    told as such.
     """
 
     paint: Paint
     most_lines: int | None = None
     with_outputs: bool = True
+    quarantine: Quarantine = NOTHING
 
     def head(self, run: Run, prefix: str) -> str:
         """Return a line that says which run it is."""
@@ -84,16 +87,19 @@ class Printer:
 
         Outputs of an attempt that passed come if they are wanted.
         """
-        title = title_of(test)
+        title, entry = title_of(test), self.quarantine.entry_of(test.key)
         if test.verdict is Verdict.SKIP:
             yield f"{self.paint('yellow', 'SKIP')} {title} ({test.reason})"
         for attempt in test.attempts:
             was_retried = len(test.attempts) > 1 or attempt.total > 1
             tried = f"attempt {attempt.number} of {attempt.total}" if was_retried else ""
-            told = [tried, attempt.detail, "slow" if attempt.is_slow else ""]
+            excused = entry if not attempt.passed else None
+            reason = formatting.name(excused.reason) if excused else ""
+            told = [tried, attempt.detail, "slow" if attempt.is_slow else "", reason]
             said = ", ".join(filter(None, told))
             taken = "" if attempt.ended is None else f"{took(attempt)} "
-            yield f"{self.result(attempt)} {taken}{title}{f' ({said})' if said else ''}"
+            mark = f"{self.paint('yellow', WORD)} " if excused else ""
+            yield f"{mark}{self.result(attempt)} {taken}{title}{f' ({said})' if said else ''}"
             if with_passed or not attempt.passed:
                 yield from self.outputs(attempt)
         if test.flaky_fails and test.verdict is Verdict.FAIL and test.attempts[-1].passed:
@@ -163,7 +169,9 @@ class Printer:
         counts = run.counts
         flaky = f" ({counts.flaky} flaky)" if counts.flaky else ""
         parts = [self.paint("green", f"{counts.passed} passed{flaky}")]
-        parts += [self.paint("red", f"{counts.failed} failed")] if counts.failed else []
+        excused = self.quarantine.failed(run)
+        failed = f"{counts.failed} failed{f' ({excused} in quarantine)' if excused else ''}"
+        parts += [self.paint("red", failed)] if counts.failed else []
         parts += [self.paint("yellow", f"{counts.unseen} never ended")] if counts.unseen else []
         parts += [f"{counts.skipped} skipped"] if counts.skipped else []
         tests = formatting.count(counts.total, "test")

@@ -1,80 +1,101 @@
-"""Gives a run that was stopped an end, so that it has a report.
+"""The report of a run that was stopped, by its view.
 
-A report has the tests that ended before the end of a run, and a stopped run has none.
+The program reports runs that ended. Of a stopped run this one has the tests that ended.
 """
 
 from __future__ import annotations
 
 import dataclasses
-import json
-from collections.abc import Iterator, Sequence
 
-from rezovamy_runs.bundles.bundle import LOG, MANIFEST, STORE
-from rezovamy_runs.bundles.container import container, entries, entry
-from rezovamy_runs.bundles.events import test_of
-from rezovamy_runs.json_values import JsonObject, Members, members_of, text_of
-from rezovamy_runs.model import TestName
-from rezovamy_runs.report.run_events import NoEvents, RunEvents
-from rezovamy_runs.streams.session_json import stats, text
+from rezovamy_runs.model import Attempt, Result, Run, Test, Verdict
+from rezovamy_runs.report.run_events import RunEvents, key_of, start_of
+from rezovamy_runs.report.run_report import (
+    Case,
+    Duration,
+    Fault,
+    NonSuccess,
+    Outputs,
+    Report,
+    Skipped,
+    Status,
+    Success,
+    Suite,
+)
+from rezovamy_runs.report.run_report import Attempt as ReportAttempt
 
-TEST_LIST = b"meta/test-list.json"
+NAME = "nextest-run"
 STOPPED = "it was stopped before its end"
 
 
-def with_end(data: bytes) -> bytes | None:
-    """Return the bundle of a stopped run with an end, None if the run has one or never started.
-
-    Tests that are listed and never started are in the end by name.
-    """
-    parts = entries(data)
-    if not {MANIFEST, LOG, STORE} <= set(parts):
-        return None
-    lines = [line for line in parts[LOG].split(b"\n") if line.strip()]
-    try:
-        events = [members_of(json.loads(line)) for line in lines]
-        if not is_open(events):
-            return None
-        end = text(end_of(events, listed_tests(entry(parts[STORE], TEST_LIST)))).encode()
-    except (RecursionError, ValueError) as error:
-        raise NoEvents(f"its log can't be read: {error}") from error
-    log = b"".join(line + b"\n" for line in (*lines, end))
-    return container([(MANIFEST, parts[MANIFEST]), (LOG, log), (STORE, parts[STORE])])
-
-
 def as_stopped(run: RunEvents) -> RunEvents:
-    """Return what is said beside the report of a run that was stopped."""
+    """Return what is known beside the report of a run that was stopped."""
     return dataclasses.replace(run, cancelled=STOPPED)
 
 
-def is_open(events: Sequence[Members]) -> bool:
-    """Tell whether the last run of a log has started and not ended."""
-    kinds = [event.text("kind") for event in events]
-    return "run-started" in kinds and "run-finished" not in kinds
+def report_of(run: Run) -> Report:
+    """Return the report of the tests that ended in a run that was stopped."""
+    suites: dict[str, list[Case]] = {}
+    for test in run.tests:
+        if test.verdict is not Verdict.UNFINISHED:
+            suites.setdefault(key_of(test).suite, []).append(case_of(test))
+    return Report(
+        NAME,
+        run.id,
+        None,
+        duration_of(run.elapsed),
+        tuple(Suite(name, tuple(cases)) for name, cases in suites.items()),
+    )
 
 
-def listed_tests(data: bytes | None) -> Iterator[TestName]:
-    """Return the tests that a test list has."""
-    suites = members_of(json.loads(data or b"{}")).optional_inner("suites")
-    for binary_id, names in suites.values.items() if suites else ():
-        if isinstance(names, list):
-            yield from (TestName(binary_id, text_of(name)) for name in names)
+def case_of(test: Test) -> Case:
+    """Return the case of a test that ended, or was skipped."""
+    suite, name = key_of(test)
+    if not test.attempts:
+        return Case(name, suite, status_of(test))
+    last = test.attempts[-1]
+    return Case(
+        name, suite, status_of(test), start_of(last), duration_of(last.seconds), outputs_of(last)
+    )
 
 
-def end_of(events: Sequence[Members], listed: Iterator[TestName]) -> JsonObject:
-    """Return the event with which the run ends: at its last instant, with its last numbers."""
-    start = next(event for event in events if event.text("kind") == "run-started")
-    last = events[-1]
-    seen = {test_of(event) for event in events if event.has("test-instance")}
-    waiting = [name for name in dict.fromkeys(listed) if name not in seen]
-    counted = [event for event in events if event.has("current-stats")]
-    named = [{"binary-id": one.binary, "test-name": one.test} for one in waiting]
-    return {
-        "kind": "run-finished",
-        "timestamp": last.required("timestamp"),
-        "elapsed": last.required("elapsed"),
-        "run-id": start.text("run-id"),
-        "start-time": start.required("timestamp"),
-        "run-elapsed": last.required("elapsed"),
-        "run-stats": {"single": counted[-1].required("current-stats") if counted else stats(0)},
-        "outstanding-not-seen": {"not-seen": named, "total-not-seen": len(named)},
-    }
+def status_of(test: Test) -> Status:
+    """Return how a test ended."""
+    if test.verdict is Verdict.SKIP:
+        return Skipped(test.reason or "")
+    earlier = tuple(attempt_of(one) for one in test.attempts[:-1] if not one.passed)
+    if test.verdict is not Verdict.FAIL:
+        return Success(earlier)
+    return NonSuccess(fault_of(test.attempts[-1]) if test.attempts else NO_FAULT, "rerun", earlier)
+
+
+NO_FAULT = Fault("failure", "test failure")
+
+
+def fault_of(attempt: Attempt) -> Fault:
+    """Return what went wrong in an attempt."""
+    said = attempt.errors or attempt.detail or attempt.result.value
+    kind = attempt.result.value if attempt.result is not Result.FAIL else "test failure"
+    with_detail = f"{kind} with {attempt.detail}" if attempt.detail else kind
+    return Fault("failure", with_detail, said.split("\n", 1)[0], said)
+
+
+def attempt_of(attempt: Attempt) -> ReportAttempt:
+    """Return an attempt before the last one of its test."""
+    return ReportAttempt(
+        fault_of(attempt), start_of(attempt), duration_of(attempt.seconds), outputs_of(attempt)
+    )
+
+
+def outputs_of(attempt: Attempt) -> Outputs:
+    """Return what an attempt printed; bytes that aren't UTF-8 are replaced."""
+    out = attempt.stdout if attempt.combined is None else attempt.combined
+    texts = [
+        None if data is None else data.decode("utf-8", "replace") for data in (out, attempt.stderr)
+    ]
+    return Outputs(*texts)
+
+
+def duration_of(seconds: float) -> Duration:
+    """Return a length of time."""
+    whole, nanos = divmod(round(seconds * 1e9), 10**9)
+    return Duration(whole, nanos)

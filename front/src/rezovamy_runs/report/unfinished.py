@@ -17,6 +17,8 @@ from rezovamy_runs.report.run_report import (
 )
 
 RUN = "(run)"
+# What the error of a test is called that never ended.
+UNFINISHED = "unfinished test"
 
 
 def with_events(report: Report, run: RunEvents) -> Report:
@@ -67,7 +69,7 @@ def unfinished_test(key: TestKey, start: Instant | None, run: RunEvents) -> Case
         f"attempt {number}: {message}"
         for number, message in enumerate(run.attempts.get(key, ()), 1)
     ]
-    return error_case(key, "unfinished test", [f"the test {how}{broken_off}", *lines], start)
+    return error_case(key, UNFINISHED, [f"the test {how}{broken_off}", *lines], start)
 
 
 def unfinished_run(run: RunEvents) -> Iterator[Case]:

@@ -3,8 +3,9 @@
 from __future__ import annotations
 
 from rezovamy_runs import formatting
-from rezovamy_runs.bundles import events
+from rezovamy_runs.bundles import statuses
 from rezovamy_runs.model import Attempt, Script, Test
+from rezovamy_runs.model import Verdict as TestVerdict
 from rezovamy_runs.processes.jobs import (
     Cancelled,
     CancelReason,
@@ -19,6 +20,7 @@ from rezovamy_runs.processes.jobs import (
     Started,
     Verdict,
 )
+from rezovamy_runs.quarantine import NOTHING, Quarantine
 from rezovamy_runs.report.run_text import Printer
 from rezovamy_runs.runner.process_statuses import errors_in, result_of, shown
 from rezovamy_runs.runner.progress import ProgressLine, counted, longest_of
@@ -37,10 +39,12 @@ SECOND = 1e9
 class ProcessProgress:
     """Prints failures as they come, and below them how far the run is."""
 
-    def __init__(self, known: int, line: ProgressLine | None = None) -> None:
+    def __init__(
+        self, known: int, line: ProgressLine | None = None, quarantine: Quarantine = NOTHING
+    ) -> None:
         self._known = known
         self._line = line or ProgressLine()
-        self._printer = Printer(self._line.paint, MOST_LINES)
+        self._printer = Printer(self._line.paint, MOST_LINES, quarantine=quarantine)
         self._ended = self._failed = 0
         # By the identity of the job: what runs, and since when.
         self._running: dict[int, tuple[str, int]] = {}
@@ -84,7 +88,7 @@ class ProcessProgress:
             self._line.print_lines([f"{name}: {formatting.harmless(told.ending.error)}"])
         if not passed:
             attempt = attempt_of(told.ending, told.attempt, told.total_attempts)
-            test = Test(told.job.binary_id, told.job.test_name, (attempt,))
+            test = Test(told.job.binary_id, told.job.test_name, TestVerdict.FAIL, (attempt,))
             self._line.print_lines(self._printer.test(test, False))
 
     def _print_outputs(self, told: Printed) -> None:
@@ -110,7 +114,7 @@ class ProcessProgress:
 
 def attempt_of(ending: Ending, number: int, total: int) -> Attempt:
     """Return an attempt as the recording will tell it."""
-    result, detail = events.result_of(result_of(ending))
+    result, detail = statuses.result_of(result_of(ending))
     errors = errors_in(ending) if ending.exit else [ending.error]
     return Attempt(
         number,

@@ -14,9 +14,11 @@ from rezovamy_runs.collecting.groups import groups_of
 from rezovamy_runs.collecting.records import own_environment
 from rezovamy_runs.faults.fault import Fault
 from rezovamy_runs.json_values import JsonObject
-from rezovamy_runs.processes.jobs import Program, Script, Settings
+from rezovamy_runs.processes.jobs import Job, Program, Script, Settings
 from rezovamy_runs.processes.loop import Loop
 from rezovamy_runs.processes.run import Run
+from rezovamy_runs.model import TestName
+from rezovamy_runs.quarantine import NOTHING, Quarantine
 from rezovamy_runs.runner import missing_tests
 from rezovamy_runs.runner.live_recorder import LiveRecorder
 from rezovamy_runs.runner.process_progress import ProcessProgress
@@ -45,6 +47,7 @@ class RunOptions:
     scripts: tuple[tuple[str, str], ...] = ()
     # The shard whose tests alone run, None if all do.
     shard: Shard | None = None
+    quarantine: Quarantine = NOTHING
 
     def settings(self, words: Sequence[str]) -> Settings:
         """Return the settings of a run with these words of `cargo test`."""
@@ -55,6 +58,11 @@ class RunOptions:
             self.slow_after,
             self.fail_fast,
         )
+
+    def excused(self, job: Job) -> Job:
+        """Return a job, which may fail if its test is in quarantine."""
+        is_excused = TestName(job.binary_id, job.test_name) in self.quarantine
+        return dataclasses.replace(job, may_fail=True) if is_excused else job
 
     def setup_scripts(self) -> list[Script]:
         """Return the setup scripts, which run in the current folder."""
@@ -130,10 +138,11 @@ class ProcessRun:
         groups = groups_of(listed) if self._options.shared else []
         jobs, scripts = jobs_of(listed), self._options.setup_scripts()
         in_groups = {id(job) for group in groups for job in group.jobs}
-        alone = [job for job in jobs if id(job) not in in_groups]
+        alone = [self._options.excused(job) for job in jobs if id(job) not in in_groups]
         skipped = [(one.binary.target.id, name) for one in listed for name in one.ignored]
         session = ProcessSession(self._name, jobs, skipped, len(scripts), loop.now())
-        suites, progress = suites_of(listed), ProcessProgress(len(jobs))
+        suites = suites_of(listed)
+        progress = ProcessProgress(len(jobs), quarantine=self._options.quarantine)
         head = self._head(session, suites)
         settings = self._options.settings(self._calls[0])
         with LiveRecorder(loop, LiveFolder(store, self._name.run_id), head) as recording:

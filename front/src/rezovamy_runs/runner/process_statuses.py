@@ -5,6 +5,7 @@ from __future__ import annotations
 import signal
 
 from rezovamy_runs import cut_outputs
+from rezovamy_runs.bundles import view_json
 from rezovamy_runs.json_values import JsonObject
 from rezovamy_runs.processes.jobs import Captured, Ending, Exit, Job, Verdict
 from rezovamy_runs.streams.failure_messages import errors_of
@@ -21,7 +22,7 @@ def shown(captured: Captured) -> bytes:
     return captured.first + cut_outputs.note(captured.left_out) + captured.last
 
 
-def abort_of(number: int) -> JsonObject:
+def abort_of(number: int) -> view_json.Signal:
     """Return the signal that ended a process."""
     try:
         return {"signal": number, "name": signal.Signals(number).name}
@@ -29,7 +30,7 @@ def abort_of(number: int) -> JsonObject:
         return {"signal": number}
 
 
-def result_of(ending: Ending) -> str | JsonObject:
+def result_of(ending: Ending) -> view_json.Result:
     """Return the result of an attempt or of a setup script."""
     match ending.verdict:
         case Verdict.PASSED:
@@ -39,7 +40,7 @@ def result_of(ending: Ending) -> str | JsonObject:
         case Verdict.EXEC_FAILED:
             return "exec-fail"
     ended = ending.exit or Exit()
-    failure: JsonObject = {"exit-code": ended.status}
+    failure: view_json.Failure = {"exit-code": ended.status or 0}
     if ended.signal is not None:
         failure = {"abort": abort_of(ended.signal)}
     return {"fail": {"failure": failure, "leaked": ending.leaked}}

@@ -15,9 +15,8 @@ from rezovamy_runs.model import (
     Test,
     TestName,
     Verdict,
-    run_of,
 )
-from rezovamy_runs.store.notes import Shard
+from rezovamy_runs.store.notes import RunNotes, Shard
 
 
 def one_run(name: str, runs: Sequence[Run]) -> Run:
@@ -31,15 +30,18 @@ def one_run(name: str, runs: Sequence[Run]) -> Run:
         for test in run.tests:
             found.setdefault((test.key, test.stress), []).append(test)
     tests = tuple(map(one_test, found.values()))
+    seen = {test.key for test in tests}
     unseen = sum(run.counts.unseen - counts_of(run.tests).unseen for run in runs)
     counts = counts_of(tests)
     counts = dataclasses.replace(counts, unseen=counts.unseen + unseen)
-    return run_of(
-        dataclasses.replace(one_summary(name, runs), counts=counts),
-        tests,
-        tuple(script for run in runs for script in run.scripts),
-        (),
-        next((run.cancelled_for for run in runs if run.cancelled_for), None),
+    summary = dataclasses.replace(one_summary(name, runs), counts=counts)
+    return Run(
+        **vars(summary),
+        extent=(min(run.extent[0] for run in runs), max(run.extent[1] for run in runs)),
+        tests=tests,
+        scripts=tuple(script for run in runs for script in run.scripts),
+        cancellations=tuple(one for run in runs for one in run.cancellations),
+        never_started=tuple(one for run in runs for one in run.never_started if one not in seen),
     )
 
 
@@ -49,7 +51,10 @@ def one_test(tests: Sequence[Test]) -> Test:
     if len(ran) < 2:
         return (ran or tests)[0]
     attempts = [attempt for test in ran for attempt in test.attempts]
-    return dataclasses.replace(ran[-1], attempts=numbered(attempts))
+    has_failed = any(test.verdict in (Verdict.FAIL, Verdict.FLAKY) for test in ran)
+    is_flaky = has_failed and ran[-1].verdict is Verdict.PASS
+    verdict = Verdict.FLAKY if is_flaky else ran[-1].verdict
+    return dataclasses.replace(ran[-1], verdict=verdict, attempts=numbered(attempts))
 
 
 def numbered(attempts: Sequence[Attempt]) -> tuple[Attempt, ...]:
@@ -108,6 +113,19 @@ def ran_twice(runs: Sequence[Run]) -> list[TestName]:
         key for run in wholes for key in {test.key for test in run.tests if test.attempts}
     )
     return sorted(key for key, number in found.items() if number > 1)
+
+
+def doubts(name: str, runs: Sequence[Run], known: Iterable[RunNotes | None]) -> list[str]:
+    """Return what of a group isn't as it should be, in a line each."""
+    twice = [f"several runs of {name} ran {key.binary} {key.test}" for key in ran_twice(runs)]
+    return [*missing_lines(name, known), *twice]
+
+
+def missing_lines(name: str, known: Iterable[RunNotes | None]) -> list[str]:
+    """Return a line with the shards that lack in a group, none if it has all."""
+    missing = missing_shards(notes.shard for notes in known if notes)
+    line = f"of {name} no run is there of shard {', '.join(map(str, missing))}"
+    return [line] if missing else []
 
 
 def missing_shards(shards: Iterable[Shard | None]) -> list[Shard]:

@@ -21,7 +21,6 @@ from typing import IO, TYPE_CHECKING
 
 from rezovamy_runs import recorder
 from rezovamy_runs.bundles import bundle
-from rezovamy_runs.bundles.container import container
 from rezovamy_runs.faults.fault import Fault
 from rezovamy_runs.model import Status, Summary
 
@@ -31,7 +30,7 @@ if TYPE_CHECKING:
 ENDING = ".live"
 RUN_ID = re.compile(r"[0-9a-f]{8}(?:-[0-9a-f]{4}){3}-[0-9a-f]{12}")
 RECORDING, LOCK, END, BUNDLE = "run", "lock", "end", "bundle"
-MANIFEST, LOG = bundle.MANIFEST.decode(), bundle.LOG.decode()
+LOG = "run.log.zst"
 # A folder without a recording has no writer any more; none takes that long to begin.
 ABANDONED_AFTER = 24 * 3600
 
@@ -112,20 +111,19 @@ class LiveFolder:
         self._store.remove(self.run_id)
 
     def summary(self) -> Summary | None:
-        """Return what there is of the run so far, None if it has just ended.
-
-        What tests print isn't read, so it takes no time however much that is.
-        """
-        try:
-            manifest, log = ((self.recording / name).read_bytes() for name in (MANIFEST, LOG))
-            size = sum(path.stat().st_size for path in self.recording.iterdir())
-        except FileNotFoundError:
-            return None
-        whole_lines = log[: log.rfind(b"\n") + 1]
-        with tempfile.NamedTemporaryFile() as file:
-            file.write(container([(bundle.MANIFEST, manifest), (bundle.LOG, whole_lines)]))
-            file.flush()
-            found = bundle.read_summary(file.name)
+        """Return what there is of the run so far, None if it has just ended."""
+        with tempfile.TemporaryDirectory() as folder:
+            made = pathlib.Path(folder, BUNDLE)
+            try:
+                size = sum(path.stat().st_size for path in self.recording.iterdir())
+                recorder.run(["pack", str(self.recording), str(made)], input=b"")
+            except FileNotFoundError:
+                return None
+            except Fault:
+                if self.recording.exists():
+                    raise
+                return None
+            found = bundle.read_summary(made)
         elapsed = max(found.elapsed, time.time() - found.started)
         return dataclasses.replace(
             found, status=Status.RUNNING, bundle=self.recording, size=size, elapsed=elapsed

@@ -3,6 +3,7 @@
 from __future__ import annotations
 
 import contextlib
+import dataclasses
 import errno
 import functools
 import os
@@ -12,13 +13,13 @@ import time
 from collections.abc import Callable, Iterable, Iterator
 
 from rezovamy_runs import formatting
-from rezovamy_runs.bundles import bundle, bundle_file
+from rezovamy_runs.bundles import bundle_file
 from rezovamy_runs.command_line import say
 from rezovamy_runs.faults.fault import Fault
 from rezovamy_runs.model import Summary
-from rezovamy_runs.store import live_folder, location, notes, whole_file
+from rezovamy_runs.store import live_folder, location, notes, summaries, whole_file
 from rezovamy_runs.store.live_folder import RUN_ID, LiveFolder, settle_all
-from rezovamy_runs.store.notes import Part, RunNotes, WrongNotes
+from rezovamy_runs.store.notes import Part, RunNotes, Shard, WrongNotes
 
 ASIDE, PAGE = ".aside", ".html"
 JUNIT = "rezovamy-junit"
@@ -29,6 +30,14 @@ TOLD = ".runs-in-target-told"
 # A file that was written aside and has no writer any more; no recording takes that long.
 ABANDONED_AFTER = 24 * 3600
 SHORTEST_PREFIX = 4
+
+
+@dataclasses.dataclass(frozen=True)
+class Chosen:
+    """The bundles that a word names; those of a group with its name."""
+
+    paths: tuple[pathlib.Path, ...]
+    group: str | None = None
 
 
 class Store:
@@ -85,19 +94,19 @@ class Store:
         """Return the folders of the runs that go on."""
         return []
 
-    def summaries(self, say: Callable[[str], object] | None = None) -> list[Summary]:
-        """Return the runs, the latest first. An unreadable file is a fault, or a line for `say`."""
-        found = []
-        for run_id in self.ids():
-            try:
-                found.append(bundle.read_summary(self.path_of(run_id)))
-            except FileNotFoundError:
-                continue
-            except Fault as fault:
-                if say is None:
-                    raise
-                say(str(fault))
-        return sorted(found, key=lambda run: (run.started, run.id), reverse=True)
+    def read(self) -> dict[str, summaries.Read]:
+        """Return what is known of each run, or why its bundle can't be read."""
+        return summaries.of_all({run_id: self.path_of(run_id) for run_id in self.ids()}, say)
+
+    def summaries(self, tell: Callable[[str], object] | None = None) -> list[Summary]:
+        """Return the runs, the latest first. An unreadable file is a fault, or a line to tell."""
+        read = self.read().values()
+        for fault in read:
+            if isinstance(fault, Fault):
+                if tell is None:
+                    raise fault
+                tell(str(fault))
+        return latest_first(one for one in read if isinstance(one, Summary))
 
     def find(self, word: str) -> pathlib.Path:
         """Return the bundle of the run that a word names.
@@ -107,7 +116,7 @@ class Store:
         if word == LAST:
             return self.last()
         if word == LAST_ANY:
-            return self.path_of(self.by_start()[0])
+            return self.readable()[0].bundle
         if is_bundle(word):
             return pathlib.Path(word)
         if bundle_file.is_named_so(word):
@@ -138,10 +147,30 @@ class Store:
         known = ((path, self.notes(path)) for path in paths)
         return [path for path, notes in known if notes and name and notes.group == name]
 
-    def find_all(self, word: str) -> list[pathlib.Path]:
-        """Return the bundles of the group that a word names, or else the one of the run."""
-        found = self.of_group(word) if self.is_somewhere() and not is_bundle(word) else []
-        return found or [self.find(word)]
+    def find_all(self, word: str) -> Chosen:
+        """Return the runs of the group that a word names, or else the one run.
+
+        `last` is a group if that has all its shards, and started after the last whole run.
+        """
+        if not self.is_somewhere() or is_bundle(word):
+            return Chosen((self.find(word),))
+        group = self._last_group() if word == LAST else word
+        found = self.of_group(group) if group else []
+        return Chosen(tuple(found), group) if found else Chosen((self.find(word),))
+
+    def _last_group(self) -> str | None:
+        """Return the last group with all its shards, None if a whole run came after it."""
+        shards: dict[str, set[Shard]] = {}
+        for run in self.readable():
+            known = self.notes(run.bundle)
+            if known and known.group and known.shard and known.part is Part.WHOLE:
+                there = shards.setdefault(known.group, set())
+                there.add(known.shard)
+                if len(there) == known.shard.total:
+                    return known.group
+            elif self.is_whole(run):
+                return None
+        return None
 
     def matching(self, word: str) -> list[str]:
         """Return the ids that begin with a word, which may be in upper case."""
@@ -154,44 +183,72 @@ class Store:
         how_far = "`rezovamy-runs list` shows how far it is"
         raise Fault(f"run {run_id} goes on: look again once it has ended; {how_far}")
 
-    def by_start(self) -> list[str]:
-        """Return the ids of the readable runs, the latest first; it is a fault if none is there."""
-        started = []
-        for run_id in self.ids():
-            with contextlib.suppress(Fault, FileNotFoundError):
-                started.append((bundle.read_start(self.path_of(run_id)), run_id))
-        if not started:
-            raise Fault(f"no run is in {self.folder}: record one with `rezovamy-runs test`")
-        return [run_id for _, run_id in sorted(started, reverse=True)]
+    def readable(self) -> list[Summary]:
+        """Return the readable runs, the latest first; it is a fault if none is there."""
+        read = self.read().values()
+        found = latest_first(one for one in read if isinstance(one, Summary))
+        if found:
+            return found
+        nothing = f"no run is in {self.folder}: record one with `rezovamy-runs test`"
+        raise next((one for one in read if isinstance(one, Fault)), Fault(nothing))
 
     def last(self) -> pathlib.Path:
         """Return the bundle of the last whole run, or of the last one if none is whole."""
-        runs = self.by_start()
-        found = next((run_id for run_id in runs if self.is_whole(run_id)), runs[0])
-        if found != runs[0]:
-            named = self.shortest(found)
+        runs = self.readable()
+        found = next((run for run in runs if self.is_whole(run)), runs[0])
+        if found is not runs[0]:
+            named = self.shortest(stem_of(found))
             say(
                 f"rezovamy-runs: {named} is the last whole run; `{LAST_ANY}` is a later part of one"
             )
-        return self.path_of(found)
+        return found.bundle
 
-    def is_whole(self, run_id: str) -> bool:
+    def is_whole(self, run: Summary) -> bool:
         """Tell whether a run has all tests: it is no part, and no shard."""
-        path = self.path_of(run_id)
-        known = self.notes(path)
+        known = self.notes(run.bundle)
         if known:
             return known.part is Part.WHOLE and known.shard is None
-        return bundle.read_parent(path) is None
+        return run.parent is None
 
     def last_in_row(self) -> pathlib.Path:
         """Return the bundle of the last whole run, or of the last rerun of it or of its reruns."""
-        found = bundle_file.stem_of(self.last().name)
-        row = [found]
-        for run_id in reversed(self.by_start()):
-            with contextlib.suppress(Fault, FileNotFoundError):
-                if bundle.read_parent(self.path_of(run_id)) in row:
-                    row.append(run_id)
-        return self.path_of(row[-1])
+        found = self.last()
+        row = [bundle_file.stem_of(found.name)]
+        for run in reversed(self.readable()):
+            if run.parent in row:
+                row.append(stem_of(run))
+                found = run.bundle
+        return found
+
+    def with_reruns(self, path: pathlib.Path) -> list[pathlib.Path]:
+        """Return the bundle of a run, and of all that ran again what hadn't passed, by starts.
+
+        What ran other sources isn't among them.
+        """
+        if not self.is_somewhere() or self.path_of(bundle_file.stem_of(path.name)) != path:
+            return [path]
+        sources, row = self._sources(path), {bundle_file.stem_of(path.name): path}
+        for run in reversed(self.readable()):
+            if run.parent in row and self._sources(run.bundle) == sources:
+                row[stem_of(run)] = run.bundle
+        return list(row.values())
+
+    def first_in_row(self, path: pathlib.Path) -> pathlib.Path:
+        """Return the bundle of the run with which a row of reruns of the same sources began."""
+        sources, known = self._sources(path), {stem_of(run): run for run in self.readable()}
+        seen, run = set[str](), known.get(bundle_file.stem_of(path.name))
+        while run and run.parent in known and run.parent not in seen:
+            parent = known[run.parent]
+            if self._sources(parent.bundle) != sources:
+                break
+            seen.add(stem_of(run))
+            run = parent
+        return run.bundle if run else path
+
+    def _sources(self, path: pathlib.Path) -> tuple[str | None, bool | None]:
+        """Return what is known of the sources that a run ran."""
+        known = self.notes(path) or RunNotes()
+        return known.commit, known.dirty
 
     def prefixes(self) -> dict[str, str]:
         """Return for each id its shortest beginning of four letters or more that no other has."""
@@ -320,9 +377,19 @@ class Store:
         for run in old:
             # By its file: in a copy under another name stands the id of a run that may have to
             # stay.
-            self.remove(bundle_file.stem_of(run.bundle.name))
+            self.remove(stem_of(run))
         for path in self.abandoned():
             path.unlink(missing_ok=True)
+
+
+def stem_of(run: Summary) -> str:
+    """Return the name of a run's bundle without its ending, which is an id."""
+    return bundle_file.stem_of(run.bundle.name)
+
+
+def latest_first(runs: Iterable[Summary]) -> list[Summary]:
+    """Return runs by their starts, the latest first."""
+    return sorted(runs, key=lambda run: (run.started, run.id), reverse=True)
 
 
 def is_bundle(word: str) -> bool:

@@ -5,15 +5,9 @@
 const MISSING = "The address leads to a test that isn't in this run. Search for it by name.";
 let waiting_address = 0, missing = "";
 
-// Half of a pair of surrogates has no place in an address.
-function encoded(text) {
-  return encodeURIComponent(shown(text).replace(/[\ud800-\udfff]/gu, "\ufffd"));
-}
-
-// A slash stands between the binary of a test and its name, since either may have `::`.
 function words_for_test(test, attempt = null) {
   const number = attempt && test.attempts.length > 1 ? [String(attempt.number)] : [];
-  return [test.place, test.name, ...number].map(encoded).join("/");
+  return address_of(test.place, test.name, ...number);
 }
 
 function words_for_filter() {
@@ -30,14 +24,6 @@ function words_for_stretch({ from, to }) {
   return `?from=${from.toFixed(6)}&to=${to.toFixed(6)}`;
 }
 
-function set_address(words) {
-  try {
-    history.replaceState(null, "", words ? `#${words}` : location.pathname + location.search);
-  } catch {
-    // Some browsers refuse that for files; the page works without.
-  }
-}
-
 // A key that is held chooses faster than browsers let an address change.
 function keep_in_address(test, attempt, is_held) {
   clearTimeout(waiting_address);
@@ -45,15 +31,6 @@ function keep_in_address(test, attempt, is_held) {
   missing = "";
   if (is_held) waiting_address = setTimeout(keep, 200);
   else keep();
-}
-
-// The address of the page shows the link too, for whoever can't copy it.
-function link_button(what, words_of) {
-  return copy_button("Copy link", `Copy link to ${what}`, () => {
-    const words = words_of();
-    set_address(words);
-    return `${location.href.split("#")[0]}#${words}`;
-  });
 }
 
 function follow_filter(wanted) {
@@ -69,14 +46,6 @@ function follow_stretch(wanted) {
   const from = Number.parseFloat(wanted.get("from")), to = Number.parseFloat(wanted.get("to"));
   select(from < to ? { from: Math.max(0, from), to: Math.min(WHOLE, to) } : null);
   if (from < to) look(from, to);
-}
-
-function decoded(words) {
-  try {
-    return words.split("/").map(decodeURIComponent);
-  } catch {
-    return [];
-  }
 }
 
 function follow_test(words) {

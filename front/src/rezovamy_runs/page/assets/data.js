@@ -4,14 +4,20 @@ const RUN = JSON.parse(document.getElementById("data").textContent);
 const BINARIES = RUN.binaries;
 const OUTPUTS = RUN.outputs;
 
-const STATES = {
-  failed: { mark: "✕", word: "failed", rank: 0 },
-  unfinished: { mark: "◌", word: "unfinished", rank: 1 },
-  flaky: { mark: "↻", word: "flaky", rank: 2 },
-  passed: { mark: "✓", word: "passed", rank: 3 },
-  skipped: { mark: "–", word: "skipped", rank: 4 },
-  script: { mark: "◆", word: "setup script", short: "setup", rank: 5 },
-};
+// The band of a slot in the page of a group: that of a shard. Undefined in the page of a run.
+function band_of(slot) {
+  return RUN.bands.findLast((band) => band.slot <= slot);
+}
+
+// A slot's number in its own run.
+function slot_number(slot) {
+  return slot - (band_of(slot)?.slot ?? 0);
+}
+
+function slot_text(slot) {
+  const band = band_of(slot), number = `slot ${slot_number(slot)}`;
+  return band ? `${shown(band.name)}, ${number}` : number;
+}
 
 const STATES_OF_TESTS = Object.keys(STATES).filter((state) => state !== "script");
 

@@ -38,7 +38,7 @@ function attempt_card(attempt) {
   const also = [
     attempt.seconds === undefined ? "" : duration(attempt.seconds),
     times_of(attempt),
-    attempt.slot === undefined || attempt.is_script ? "" : `slot ${attempt.slot}`,
+    attempt.slot === undefined || attempt.is_script ? "" : slot_text(attempt.slot),
     attempt.slow ? "slow" : "",
   ];
   card.append(element("header", "",
@@ -161,6 +161,7 @@ function draw_test(test) {
   const parts = [back_button(), head, element("p", "under", ...spans)];
   if (test.reason) parts.push(element("p", "under", `Skipped: ${test.reason}.`));
   if (command_for(test)) parts.push(command_part(command_for(test)));
+  if (past_part(test)) parts.push(past_part(test));
   details.replaceChildren(...parts, ...test.attempts.map((one) => attempt_card(one)));
   details.scrollTop = 0;
 }

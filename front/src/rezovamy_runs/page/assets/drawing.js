@@ -8,13 +8,13 @@ const COLOURS = [
   "panel", "ink", "muted", "faint", "line", "accent", "on-slice", "on-failed", "pause",
   "pause-line", "edge", "hover",
 ];
-const KINDS = ["passed", "script", "flaky", "retried", "unfinished", "failed"];
+const KINDS_OF_SLICES = ["passed", "script", "flaky", "retried", "unfinished", "failed"];
 
 function read_colours() {
   const style = getComputedStyle(document.documentElement);
   const colour = (name) => style.getPropertyValue(`--${name}`).trim();
-  paint = Object.fromEntries(KINDS.map((kind) => [kind, colour(`slice-${kind}`)]));
-  paint.edges = Object.fromEntries(KINDS.map((kind) => [kind, colour(`edge-${kind}`)]));
+  paint = Object.fromEntries(KINDS_OF_SLICES.map((kind) => [kind, colour(`slice-${kind}`)]));
+  paint.edges = Object.fromEntries(KINDS_OF_SLICES.map((kind) => [kind, colour(`edge-${kind}`)]));
   for (const name of COLOURS) paint[name] = colour(name);
   paint.strong = colour("failed");
   paint.slow = colour("flaky");
@@ -92,7 +92,7 @@ function draw_grid(context, first, end) {
   for (const time of ticks()) context.fillRect(Math.round(x_at(time)), AXIS, 1, height);
   for (let at = first; at < end; at++) {
     const top = Math.round(top_of(at));
-    if (rows_by === "binary" && rows[at].first && at) context.fillRect(gutter, top, width, 1);
+    if (rows[at].first && at) context.fillRect(gutter, top, width, 1);
   }
 }
 

@@ -142,14 +142,3 @@ function places_of(sought, text) {
   }
   return found;
 }
-
-// The mark of a state, which a screen reader hears as a word.
-function state_mark(state, hidden = false) {
-  const made = element("span", `mark is-${state}`, STATES[state].mark);
-  if (hidden) made.setAttribute("aria-hidden", "true");
-  else {
-    made.setAttribute("role", "img");
-    made.setAttribute("aria-label", STATES[state].word);
-  }
-  return made;
-}

@@ -28,11 +28,23 @@ function make_rows() {
   const of_tests = by_start.filter((one) => !one.is_script);
   if (rows_by === "slot") {
     const slots = [...new Set(of_tests.map((one) => one.slot))].sort((one, other) => one - other);
-    slots.forEach((slot) => row_for(slot, `slot ${slot}`, ""));
+    rows_of_slots(slots, row_for);
     of_tests.forEach((one) => row_for(one.slot).attempts.push(one));
   } else rows_of_binaries(of_tests, row_for);
   rows = [...found.values()];
   rows.forEach((row, at) => row.attempts.forEach((one) => { one.row = at; }));
+}
+
+// In the page of a group, the first row of each band has its name.
+function rows_of_slots(slots, row_for) {
+  slots.forEach((slot, at) => {
+    const band = band_of(slot);
+    if (!band) row_for(slot, `slot ${slot}`, "");
+    else {
+      const first = !at || band_of(slots[at - 1]) !== band;
+      row_for(slot, first ? shown(band.name) : "", `${slot_number(slot)}`).first = first;
+    }
+  });
 }
 
 function rows_of_binaries(attempts, row_for) {
@@ -42,7 +54,8 @@ function rows_of_binaries(attempts, row_for) {
   }
   for (const [binary, used] of slots) {
     [...used].sort((one, other) => one - other).forEach((slot, at) => {
-      const row = row_for(`${binary} ${slot}`, at ? "" : shown(BINARIES[binary]), `${slot}`);
+      const name = at ? "" : shown(BINARIES[binary]);
+      const row = row_for(`${binary} ${slot}`, name, `${slot_number(slot)}`);
       row.first = at === 0;
     });
   }
