@@ -2,6 +2,8 @@
 
 from __future__ import annotations
 
+import signal
+
 import pytest
 
 from rezovamy_runs.cut_outputs import LAST
@@ -19,6 +21,8 @@ from rezovamy_runs.processes.jobs import (
     Started,
     Verdict,
 )
+from rezovamy_runs.processes.loop import Loop
+from rezovamy_runs.processes.run import Run
 from tests.process_runs import events_of, program
 
 # Functions of a shell in place of libtest: the start of a test, its end, and that with an output.
@@ -211,9 +215,14 @@ def test_retries(text: str, names: str, expected: str) -> None:
 
 def test_a_run_that_is_cancelled_before_a_retry() -> None:
     """Its test has an end, which says why it wasn't tried again."""
-    text = "trap 'exit 1' INT; start bad; end failed bad; kill -INT $PPID; sleep 60"
-    events = run(text, "bad", retries=2)
-    ended = [event for event in events if isinstance(event, Ended)]
+    group = group_of("trap 'exit 1' INT; start bad; end failed bad; sleep 60", "bad")
+    ended: list[Ended] = []
+    with Loop() as loop:
+        for event in Run(loop, [], Settings(1, retries=2), groups=[group]):
+            if isinstance(event, Ended):
+                ended.append(event)
+                if event.next_attempt == 2:
+                    signal.raise_signal(signal.SIGINT)
     assert [(event.attempt, event.ending.verdict, event.next_attempt) for event in ended] == [
         (1, Verdict.FAILED, 2),
         (2, Verdict.EXEC_FAILED, None),
