@@ -16,7 +16,7 @@ use crate::errors::SalvageError;
 use crate::gathering::take_lines;
 use crate::metadata::check_metadata;
 use crate::store::keep_store;
-use rec_container::{Container, PrefixError};
+use rec_container::{Container, FrontError};
 use rec_events::Items;
 use rec_format::{ComponentSizes, PortableManifest, RecordedRunInfo, RecordedSizes};
 use rec_forms::Held;
@@ -97,10 +97,10 @@ fn read_prefix<'a>(alloc: Global, store: &'a [u8]) -> Result<Container<'a>, Salv
     ensures err { IfErr result (IsRefused store.now) }
     ensures magic { has_magic store.now ≡ false → result ≡ Err BadMagic }
 {
-    match Container::parse_prefix(alloc, store) {
+    match Container::parse_front(alloc, store) {
         Ok(prefix) => Ok(prefix),
-        Err(PrefixError::BadMagic) => Err(SalvageError::BadMagic),
-        Err(PrefixError::OutOfMemory) => Err(SalvageError::OutOfMemory),
+        Err(FrontError::BadMagic) => Err(SalvageError::BadMagic),
+        Err(FrontError::OutOfMemory) => Err(SalvageError::OutOfMemory),
     }
 }
 

@@ -1,4 +1,4 @@
-use Rattle.rec_container.proofs.prefix.next_entry.Goals as goal
+use Rattle.rec_container.proofs.front.next_entry.Goals as goal
 use Rattle.rec_container.proofs.Unique.{fault_stuck}
 use Rattle.rec_container.proofs.WholePrefixes.{found_step}
 use Rattle.rec_container.specs.Placed.{placed_entries}

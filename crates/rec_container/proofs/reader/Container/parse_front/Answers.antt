@@ -2,7 +2,7 @@ use Rattle.std.proofs.Common.{◌≡◌, Bool, true, false, ◌∙◌, ◌+◌, 
 use Rattle.rec_container.proofs.Grammar.{step_at-some}
 use Rattle.rec_container.proofs.Placed.{prefix_placed}
 use Rattle.rec_container.proofs.Prefixes.{reading_begins, reading_goes_on, magic_tested}
-use Rattle.rec_container.proofs.reader.Container.parse_prefix.Goals as goal
+use Rattle.rec_container.proofs.reader.Container.parse_front.Goals as goal
 use Rattle.rec_container.specs.Container.{ParsedContainer}
 use Rattle.rec_container.specs.Placed.{placed_entry, placed_entries}
 use Rattle.rec_container.specs.WholePrefixes.{IsWholePrefix}

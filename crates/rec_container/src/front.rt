@@ -2,7 +2,7 @@
 ghost use Rattle.std.specs.Option.{option_map};
 ghost use Rattle.std.specs.Prelude.{◌≡◌, ◌<◌, ◌+◌, ◌^◌, length, IfOk, IfErr, IfSome};
 ghost use Rattle.std.specs.Prelude.{Ok, Err, Some, None, false, MatchOption};
-ghost use Rattle.rec_container.specs.declared.prefix.PrefixError.TheVariants.{BadMagic};
+ghost use Rattle.rec_container.specs.declared.front.FrontError.TheVariants.{BadMagic};
 ghost use Rattle.rec_container.specs.Placed.{placed_entry, placed_entries};
 ghost use Rattle.rec_container.specs.Reading.{has_magic, step_at};
 ghost use Rattle.rec_container.specs.WholePrefixes.{IsStuck, IsWholePrefix};
@@ -16,7 +16,7 @@ use thiserror::Error;
 
 /// Says why bytes have no whole prefix.
 #[derive(Clone, Copy, Debug, Error)]
-pub enum PrefixError {
+pub enum FrontError {
     /// The bytes don't begin with `nxtcont1`.
     #[error("not a container: it doesn't begin with nxtcont1")]
     BadMagic,
@@ -25,13 +25,13 @@ pub enum PrefixError {
     OutOfMemory,
 }
 
-impl From<AllocError> for PrefixError {
-    ghost use Rattle.rec_container.specs.declared.prefix.PrefixError.TheVariants.{OutOfMemory};
+impl From<AllocError> for FrontError {
+    ghost use Rattle.rec_container.specs.declared.front.FrontError.TheVariants.{OutOfMemory};
 
     ghost from_gives = { λ _ e. e ≡ OutOfMemory };
 
     fn from(_error: AllocError) -> Self {
-        PrefixError::OutOfMemory
+        FrontError::OutOfMemory
     }
 }
 
@@ -44,7 +44,7 @@ impl<'a> Container<'a> {
     ///
     /// - `BadMagic` exactly where the bytes don't begin with `nxtcont1`.
     /// - `OutOfMemory` where memory is short.
-    pub fn parse_prefix(alloc: Global, bytes: &'a [u8]) -> Result<Container<'a>, PrefixError>
+    pub fn parse_front(alloc: Global, bytes: &'a [u8]) -> Result<Container<'a>, FrontError>
         ensures prefix { IfOk result
             (λ c. (c.bytes ≡ bytes.now) × IsWholePrefix bytes.now c.entries) }
         // `BadMagic` comes exactly where the magic isn't there.
@@ -52,7 +52,7 @@ impl<'a> Container<'a> {
         ensures magic { has_magic bytes.now ≡ false → result ≡ Err BadMagic }
     {
         let Some(mut rest) = bytes.strip_prefix(b"nxtcont1".as_slice()) else {
-            return Err(PrefixError::BadMagic);
+            return Err(FrontError::BadMagic);
         };
         let mut at = 8;
         let mut entries = IndexedEntries::new(alloc);
