@@ -6,7 +6,7 @@ import dataclasses
 import pathlib
 
 from rezovamy_runs.page import document
-from tests.browser import Browser
+from tests.browser import Browser, member
 from tests.made import bundle_of
 
 READY = "document.documentElement.dataset.ready === 'yes'"
@@ -52,6 +52,17 @@ class Page:
         value = self.evaluate(code)
         assert isinstance(value, (int, float))
         return value
+
+    def count_processor_time(self) -> None:
+        """Count the processor's time of pages, which other processes don't lengthen."""
+        self.browser.ask("Performance.enable", timeDomain="threadTicks")
+
+    def processor_time(self) -> float:
+        """Return the seconds that the page has taken of a processor since it was opened."""
+        metrics = member(self.browser.ask("Performance.getMetrics"), "metrics")
+        assert isinstance(metrics, list)
+        [found] = [one["value"] for one in metrics if one["name"] == "TaskDuration"]
+        return float(found)
 
     def texts(self, code: str) -> list[str]:
         """Return the texts that an expression is."""
