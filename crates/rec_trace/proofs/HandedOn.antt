@@ -7,11 +7,13 @@ use Rattle.serde_json.specs.Data.{Data}
 use Rattle.rec_spans.specs.declared.errors.ChromeTraceError.TheVariants as errors
 use Rattle.rec_spans.specs.declared.errors.ChromeTraceError.{ChromeTraceError}
 use Rattle.rec_spans.specs.declared.settings.ChromeTraceGroupBy.{ChromeTraceGroupBy}
+use Rattle.rec_spans.specs.History.{TraceState}
+use Rattle.rec_spans.specs.Past.{TraceInput}
 use Rattle.rec_spans.specs.Plain.{PlainEvent}
 use Rattle.rec_spans.specs.Refusals.{next_refusal}
 use Rattle.rec_trace.proofs.Refusals.{of-event}
 use Rattle.rec_trace.proofs.Tracing.{advanced, draws-is, refusal-is, stays}
-use Rattle.rec_trace.specs.Building.{HandsOver, Processes, build_error}
+use Rattle.rec_trace.specs.Building.{Answers, HandsOver, Processes, build_error}
 use Rattle.rec_trace.specs.declared.build_error.TraceBuildError.TheVariants.{
   Failed,
   Refused,
@@ -20,93 +22,76 @@ use Rattle.rec_trace.specs.declared.build_error.TraceBuildError.TheVariants.{
 }
 use Rattle.rec_trace.specs.declared.build_error.TraceBuildError.{TraceBuildError}
 use Rattle.rec_trace.specs.declared.builder.Handing.{Handing}
+use Rattle.rec_trace.specs.declared.tracer.Tracer.{Tracer}
 use Rattle.rec_trace.specs.Standing.{StandsFor}
 use Rattle.rec_trace.specs.Steps.{StaysSame, draws, seen_by}
 use Rattle.rec_trace.specs.Targets.{Takes, TakesPart}
 
+-- what holds of want of memory, and of each cause to refuse an event, holds of the answer to an
+-- event that was not drawn
+by-cause : (state : TraceState) (input : TraceInput) (P : TraceBuildError → Type 0) → P OutOfMemory
+    → ((e : ChromeTraceError) → next_refusal state input ≡ Some e → P (Refused e))
+    → (e : ChromeTraceError)
+    → ((e ≡ errors.OutOfMemory) ⊎ (next_refusal state input ≡ Some e)) → P (build_error e)
+by-cause state input P memory refused e (inl is) = subst (λ x. P (build_error x)) (sym is) memory
+by-cause state input P memory refused (errors.ReadError fault) (inr cause) =
+    refused (errors.ReadError fault) cause
+by-cause state input P memory refused (errors.MissingTestStart n b t) (inr cause) =
+    refused (errors.MissingTestStart n b t) cause
+by-cause state input P memory refused (errors.MissingScriptStart n id) (inr cause) =
+    refused (errors.MissingScriptStart n id) cause
+by-cause state input P memory refused (errors.MissingStressSubRunStart n) (inr cause) =
+    refused (errors.MissingStressSubRunStart n) cause
+by-cause state input P memory refused (errors.SpanAlreadyOpen n k) (inr cause) =
+    refused (errors.SpanAlreadyOpen n k) cause
+by-cause state input P memory refused (errors.SlotBusy n slot) (inr cause) =
+    refused (errors.SlotBusy n slot) cause
+by-cause state input P memory refused (errors.TimestampOutOfRange n) (inr cause) =
+    refused (errors.TimestampOutOfRange n) cause
+by-cause state input P memory refused (errors.RowOutOfRange n number) (inr cause) =
+    refused (errors.RowOutOfRange n number) cause
+by-cause state input P memory refused (errors.CountOutOfRange n) (inr cause) =
+    refused (errors.CountOutOfRange n) cause
+by-cause state input P memory refused errors.OutOfMemory (inr cause) = memory
+
+-- an event that was not drawn leaves the target as it was
+pub unchanged : {T : Type 0} (state : TraceState) (input : TraceInput) (old new : Handing)
+    (target : T) → old.failed ≡ false → new.failed ≡ false → (e : ChromeTraceError)
+    → ((e ≡ errors.OutOfMemory) ⊎ (next_refusal state input ≡ Some e))
+    → Answers old target new target (Err (build_error e))
+unchanged state input old new target sound still =
+    by-cause state input (λ e. Answers old target new target (Err e)) (sound, (still, refl))
+    (λ e cause. (sound, (still, (refl, of-event state input e cause))))
+
 module _ {T : Type 0} (holds : T → List Data → Type 0) (g : ChromeTraceGroupBy) (version : Parts)
-    (events : List PlainEvent) (event : PlainEvent) (old : Handing)
-    (has : StandsFor g version events old.tracer) (sound : old.failed ≡ false) where
+    (events : List PlainEvent) (event : PlainEvent) (old : Tracer)
+    (has : StandsFor g version events old) where
   -- an event that was drawn is handed on
   pub handed : (new : Handing) (target now : T) (values : List Data) (r : Result ⊤ TraceBuildError)
-      → next_refusal old.tracer.tracker (seen_by old.tracer event) ≡ None
-      → values ≡ draws old.tracer event → HandsOver holds values old.tracer event target new now r
-      → Processes holds g version events event old target new now r
+      → next_refusal old.tracker (seen_by old event) ≡ None → values ≡ draws old event
+      → HandsOver holds values old event target new now r
+      → Processes holds g version events event target new now r
   handed new target now values (Ok u) none are h = (
-    sound,
-    (
-      h.1.0,
-      (
-        advanced g version events event old.tracer has new.tracer none h.0,
-        subst (Takes holds target now) (are ∙ draws-is g version events event old.tracer has) h.1.1,
-      ),
-    ),
+    advanced g version events event old has new.tracer none h.0,
+    subst (Takes holds target now) (are ∙ draws-is g version events event old has) h.1,
   )
   handed new target now values (Err Failed) none are h = absurd h
   handed new target now values (Err (Refused e)) none are h = absurd h
   handed new target now values (Err TargetFault) none are h = (
-    sound,
+    stays g version events old new.tracer has h.0,
     (
-      h.1.0,
-      (
-        stays g version events old.tracer new.tracer has h.0,
-        subst (TakesPart holds target now) (are ∙ draws-is g version events event old.tracer has)
-            h.1.1,
-      ),
+      refusal-is g version events event old has ∙ none,
+      subst (TakesPart holds target now) (are ∙ draws-is g version events event old has) h.1,
     ),
   )
   handed new target now values (Err OutOfMemory) none are h = absurd h
 
-  module _ (new : Handing) (target : T) (same : StaysSame old.tracer new.tracer)
-      (still : new.failed ≡ old.failed) where
-    still-sound : new.failed ≡ false
-    still-sound = still ∙ sound
-
-    no-memory : Processes holds g version events event old target new target (Err OutOfMemory)
-    no-memory =
-        (sound, (still-sound, (stays g version events old.tracer new.tracer has same, refl)))
-
-    refused : (e : ChromeTraceError)
-        → next_refusal old.tracer.tracker (seen_by old.tracer event) ≡ Some e
-        → Processes holds g version events event old target new target (Err (Refused e))
-    refused e cause = (
-      sound,
-      (
-        still-sound,
-        (
-          stays g version events old.tracer new.tracer has same,
-          (
-            refl,
-            (
-              refusal-is g version events event old.tracer has ∙ cause,
-              of-event old.tracer.tracker (seen_by old.tracer event) e cause,
-            ),
-          ),
-        ),
-      ),
-    )
-
-    -- an event that was not drawn is refused, or memory ran out
-    pub not-drawn : (e : ChromeTraceError)
-        → ((e ≡ errors.OutOfMemory)
-        ⊎ (next_refusal old.tracer.tracker (seen_by old.tracer event) ≡ Some e))
-        → Processes holds g version events event old target new target (Err (build_error e))
-    not-drawn e (inl memory) =
-        subst
-        (λ x. Processes holds g version events event old target new target (Err (build_error x)))
-        (sym memory) no-memory
-    not-drawn (errors.ReadError fault) (inr cause) = refused (errors.ReadError fault) cause
-    not-drawn (errors.MissingTestStart n b t) (inr cause) =
-        refused (errors.MissingTestStart n b t) cause
-    not-drawn (errors.MissingScriptStart n id) (inr cause) =
-        refused (errors.MissingScriptStart n id) cause
-    not-drawn (errors.MissingStressSubRunStart n) (inr cause) =
-        refused (errors.MissingStressSubRunStart n) cause
-    not-drawn (errors.SpanAlreadyOpen n k) (inr cause) = refused (errors.SpanAlreadyOpen n k) cause
-    not-drawn (errors.SlotBusy n slot) (inr cause) = refused (errors.SlotBusy n slot) cause
-    not-drawn (errors.TimestampOutOfRange n) (inr cause) =
-        refused (errors.TimestampOutOfRange n) cause
-    not-drawn (errors.RowOutOfRange n number) (inr cause) =
-        refused (errors.RowOutOfRange n number) cause
-    not-drawn (errors.CountOutOfRange n) (inr cause) = refused (errors.CountOutOfRange n) cause
-    not-drawn errors.OutOfMemory (inr cause) = no-memory
+  -- an event that was not drawn is refused, or memory ran out
+  pub not-drawn : (new : Handing) (target : T) → StaysSame old new.tracer → (e : ChromeTraceError)
+      → ((e ≡ errors.OutOfMemory) ⊎ (next_refusal old.tracker (seen_by old event) ≡ Some e))
+      → Processes holds g version events event target new target (Err (build_error e))
+  not-drawn new target same =
+      let still = stays g version events old new.tracer has same in
+      by-cause old.tracker (seen_by old event)
+      (λ e. Processes holds g version events event target new target (Err e)) still
+      (λ e cause. (still, refusal-is g version events event old has ∙ cause))

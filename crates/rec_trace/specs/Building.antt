@@ -1,10 +1,11 @@
 -- What becomes of an event that a builder is handed,
 -- and of the target that it hands the trace events on to.
 use Rattle.std.specs.Bool.{⊤}
-use Rattle.std.specs.Prelude.{◌≡◌, ◌≤◌, ℕ, true, false, List, [], ◌∷◌, ◌++◌, Some, Result, Ok, Err}
+use Rattle.std.specs.Prelude.{◌≡◌, ◌≤◌, ℕ, true, false, List, [], ◌∷◌, ◌++◌}
+use Rattle.std.specs.Prelude.{None, Some, Result, Ok, Err}
 use Rattle.semver.specs.Parse.{Parts}
 use Rattle.serde_json.specs.Data.{Data}
-use Rattle.rec_container.specs.Causes.{Rose}
+use Rattle.rec_container.specs.Causes.{next_count}
 use Rattle.rec_spans.specs.declared.errors.ChromeTraceError.TheVariants as errors
 use Rattle.rec_spans.specs.declared.errors.ChromeTraceError.{ChromeTraceError}
 use Rattle.rec_spans.specs.declared.settings.ChromeTraceGroupBy.{ChromeTraceGroupBy}
@@ -53,27 +54,36 @@ shown version g events event =
 abbrev pub HandsOn : ChromeTraceGroupBy → Parts → List PlainEvent → Handing → Type 0
 HandsOn g version events h = StandsFor g version events h.tracer
 
+-- With `Failed` the target failed at an earlier event, and with no other answer. With `TargetFault`
+-- it fails now, and with no other. It has only changed with an accepted event or with `TargetFault`
+module _ {T : Type 0} where
+  abbrev pub Answers : Handing → T → Handing → T → Result ⊤ TraceBuildError → Type 0
+  Answers old before new now (Ok u) = (old.failed ≡ false) × (new.failed ≡ false)
+  Answers old before new now (Err Failed) =
+      (old.failed ≡ true) × ((new.failed ≡ true) × (now ≡ before))
+  Answers old before new now (Err (Refused e)) =
+      (old.failed ≡ false) × ((new.failed ≡ false) × ((now ≡ before) × IsOfEvent e))
+  Answers old before new now (Err TargetFault) = (old.failed ≡ false) × (new.failed ≡ true)
+  Answers old before new now (Err OutOfMemory) =
+      (old.failed ≡ false) × ((new.failed ≡ false) × (now ≡ before))
+
 module _ {T : Type 0} (holds : T → List Data → Type 0) where
   -- An event is accepted, and its trace events stand after what the target had. Or it is not
   -- accepted, and the builder stands for the events before it: the target failed at an earlier one;
-  -- the event is refused after those before it; the target fails at one of its trace events and has
-  -- those before that one; or memory runs out. The target has only changed where it failed
-  abbrev pub Processes : ChromeTraceGroupBy → Parts → List PlainEvent → PlainEvent → Handing → T
-      → Handing → T → Result ⊤ TraceBuildError → Type 0
-  Processes g version events event old before new now (Ok u) =
-      (old.failed ≡ false) × ((new.failed ≡ false) × (HandsOn g version (events ++ event ∷ []) new
-      × Takes holds before now (shown version g events event)))
-  Processes g version events event old before new now (Err Failed) =
-      (old.failed ≡ true) × ((new.failed ≡ true) × (HandsOn g version events new × (now ≡ before)))
-  Processes g version events event old before new now (Err (Refused e)) =
-      (old.failed ≡ false) × ((new.failed ≡ false) × (HandsOn g version events new
-      × ((now ≡ before) × ((events_refusal g (events ++ event ∷ []) ≡ Some e) × IsOfEvent e))))
-  Processes g version events event old before new now (Err TargetFault) =
-      (old.failed ≡ false) × ((new.failed ≡ true)
-      × (HandsOn g version events new × TakesPart holds before now (shown version g events event)))
-  Processes g version events event old before new now (Err OutOfMemory) =
-      (old.failed ≡ false)
-      × ((new.failed ≡ false) × (HandsOn g version events new × (now ≡ before)))
+  -- the event is refused after those before it; it isn't refused, and the target fails at one of
+  -- its trace events and has those before that one; or memory runs out
+  abbrev pub Processes : ChromeTraceGroupBy → Parts → List PlainEvent → PlainEvent → T → Handing → T
+      → Result ⊤ TraceBuildError → Type 0
+  Processes g version events event before new now (Ok u) =
+      HandsOn g version (events ++ event ∷ []) new
+      × Takes holds before now (shown version g events event)
+  Processes g version events event before new now (Err Failed) = HandsOn g version events new
+  Processes g version events event before new now (Err (Refused e)) =
+      HandsOn g version events new × (events_refusal g (events ++ event ∷ []) ≡ Some e)
+  Processes g version events event before new now (Err TargetFault) =
+      HandsOn g version events new × ((events_refusal g (events ++ event ∷ []) ≡ None)
+      × TakesPart holds before now (shown version g events event))
+  Processes g version events event before new now (Err OutOfMemory) = HandsOn g version events new
 
 -- ---- one event
 
@@ -83,20 +93,20 @@ module _ {T : Type 0} (holds : T → List Data → Type 0) where
   abbrev pub HandsOver : List Data → Tracer → PlainEvent → T → Handing → T
       → Result ⊤ TraceBuildError → Type 0
   HandsOver drawn before event target new now (Ok u) =
-      Advances before event new.tracer × ((new.failed ≡ false) × Takes holds target now drawn)
+      Advances before event new.tracer × Takes holds target now drawn
   HandsOver drawn before event target new now (Err Failed) = ⊥
   HandsOver drawn before event target new now (Err (Refused e)) = ⊥
   HandsOver drawn before event target new now (Err TargetFault) =
-      StaysSame before new.tracer × ((new.failed ≡ true) × TakesPart holds target now drawn)
+      StaysSame before new.tracer × TakesPart holds target now drawn
   HandsOver drawn before event target new now (Err OutOfMemory) = ⊥
 
--- a fault of the target comes only by its count
+-- the target counted one fault with `TargetFault`, and none with any other answer
 abbrev pub CausedBy : ℕ → ℕ → Result ⊤ TraceBuildError → Type 0
-CausedBy before now (Ok u) = ⊤
-CausedBy before now (Err Failed) = ⊤
-CausedBy before now (Err (Refused e)) = ⊤
-CausedBy before now (Err TargetFault) = Rose before now
-CausedBy before now (Err OutOfMemory) = ⊤
+CausedBy before now (Ok u) = now ≡ before
+CausedBy before now (Err Failed) = now ≡ before
+CausedBy before now (Err (Refused e)) = now ≡ before
+CausedBy before now (Err TargetFault) = now ≡ next_count before
+CausedBy before now (Err OutOfMemory) = now ≡ before
 
 pub record TargetCause (before now : ℕ) (result : Result ⊤ TraceBuildError) : Type 0 where
   pub later : before ≤ now

@@ -5,7 +5,7 @@ ghost use Rattle.serde_json.specs.View.{view};
 ghost use Rattle.rec_trace_events.specs.EventTexts.{event_value};
 ghost use Rattle.rec_spans.specs.declared.settings.ChromeTraceGroupBy.{ChromeTraceGroupBy};
 ghost use Rattle.rec_spans.specs.Plain.{PlainEvent, plain};
-ghost use Rattle.rec_trace.specs.Building.{HandsOn, HandsOver, Processes, TargetCause};
+ghost use Rattle.rec_trace.specs.Building.{Answers, HandsOn, HandsOver, Processes, TargetCause};
 ghost use Rattle.rec_trace.specs.declared.tracer.Tracer.{Tracer};
 ghost use Rattle.rec_trace.specs.Held.{IsHeld};
 ghost use Rattle.rec_trace.specs.Histories.{known_of};
@@ -41,8 +41,9 @@ impl Handing {
     ) -> Result<(), TraceBuildError>
         ensures processed { (g : ChromeTraceGroupBy) (version : Parts) (events : List PlainEvent)
             → HandsOn g version events self.old
-            → Processes T.holds g version events (plain event.now) self.old target.old self.new
-            target.new result }
+            → Processes T.holds g version events (plain event.now) target.old self.new target.new
+            result }
+        ensures answers { Answers self.old target.old self.new target.new result }
         ensures cause { TargetCause (T.faults target.old) (T.faults target.new) result }
     {
         if self.failed {
@@ -68,6 +69,7 @@ impl Handing {
             → IsPrepared before (plain event.now) self.old.tracer drawn.prepared
             → HandsOver T.holds (map event_value drawn.events.items) before (plain event.now)
             target.old self.new target.new result }
+        ensures answers { Answers self.old target.old self.new target.new result }
         ensures cause { TargetCause (T.faults target.old) (T.faults target.new) result }
     {
         let DrawnEvent { events, prepared } = drawn;
@@ -130,8 +132,8 @@ impl<'t, T: TraceTarget> TraceBuilder<'t, T> {
     /// - `Failed`: the target failed at an earlier event. It gets nothing any more.
     /// - `Refused`: the event has a cause to be refused, which is never `ReadError` or
     ///   `OutOfMemory`. The target gets nothing, and the trace may be built on.
-    /// - `TargetFault`: the target failed. It got the trace events before the one at which it
-    ///   failed.
+    /// - `TargetFault`: the event has no cause to be refused, but the target failed. It got the
+    ///   trace events before the one at which it failed.
     /// - `OutOfMemory`: memory ran out. The target gets nothing, and the trace may be built on.
     pub fn process_event(
         &mut self,
@@ -140,8 +142,10 @@ impl<'t, T: TraceTarget> TraceBuilder<'t, T> {
         ensures same { self.new.target.ghost_name ≡ self.old.target.ghost_name }
         ensures processed { (g : ChromeTraceGroupBy) (version : Parts) (events : List PlainEvent)
             → HandsOn g version events self.old.handing
-            → Processes T.holds g version events (plain event.now) self.old.handing
-            self.old.target.now self.new.handing self.new.target.now result }
+            → Processes T.holds g version events (plain event.now) self.old.target.now
+            self.new.handing self.new.target.now result }
+        ensures answers { Answers self.old.handing self.old.target.now self.new.handing
+            self.new.target.now result }
         ensures cause { TargetCause (T.faults self.old.target.now) (T.faults self.new.target.now)
             result }
     {

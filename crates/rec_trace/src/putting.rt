@@ -1,6 +1,6 @@
 //! Puts the trace events of an event, one after the other.
 ghost use Rattle.std.specs.Prelude.{map, OnOk, OnErr};
-ghost use Rattle.rec_container.specs.Causes.{HasCause};
+ghost use Rattle.rec_container.specs.Causes.{Counts, HasCause};
 ghost use Rattle.rec_trace_events.specs.EventTexts.{event_value};
 ghost use Rattle.rec_trace.specs.Targets.{Takes, TakesPart};
 
@@ -14,6 +14,7 @@ pub fn put_all<T: TraceTarget>(target: &mut T, events: Vec<TraceEvent>) -> Resul
     ensures part { OnErr result
         (TakesPart T.holds target.old target.new (map event_value events.items)) }
     ensures cause { HasCause (T.faults target.old) (T.faults target.new) result }
+    ensures counted { Counts (T.faults target.old) (T.faults target.new) result }
 {
     for event in events {
         target.put(event)?;

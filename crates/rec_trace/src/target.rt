@@ -1,7 +1,7 @@
 //! What takes the events of a trace, one at a time.
 ghost use Rattle.std.specs.Prelude.{List, ℕ, [], ◌∷◌, OnOk, OnErr};
 ghost use Rattle.serde_json.specs.Data.{Data};
-ghost use Rattle.rec_container.specs.Causes.{HasCause};
+ghost use Rattle.rec_container.specs.Causes.{Counts, HasCause};
 ghost use Rattle.rec_trace_events.specs.EventTexts.{event_value};
 ghost use Rattle.rec_trace.specs.Targets.{Stays, Takes};
 
@@ -25,10 +25,11 @@ pub trait TraceTarget {
     ///
     /// # Errors
     ///
-    /// `TargetFailed` means that the target failed: its count of faults rose,
+    /// `TargetFailed` means that the target failed: it counted one fault,
     /// and it has the events that it had.
     fn put(&mut self, event: TraceEvent) -> Result<(), TargetFailed>
         ensures taken { OnOk result (Takes holds self.old self.new (event_value event ∷ [])) }
         ensures same { OnErr result (Stays holds self.old self.new) }
-        ensures cause { HasCause (faults self.old) (faults self.new) result };
+        ensures cause { HasCause (faults self.old) (faults self.new) result }
+        ensures counted { Counts (faults self.old) (faults self.new) result };
 }

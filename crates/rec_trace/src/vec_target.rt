@@ -1,7 +1,7 @@
 //! A target in memory, which fails at the calls that it is given.
 ghost use Rattle.std.specs.Prelude.{◌≡◌, ◌≤◌, ◌+◌, ◌⊎◌, [], ◌∷◌, Contains};
 ghost use Rattle.std.specs.Prelude.{OnOk, OnErr, vec_len, vec_capacity};
-ghost use Rattle.rec_container.specs.Causes.{HasCause, next_count};
+ghost use Rattle.rec_container.specs.Causes.{Counts, HasCause, next_count};
 ghost use Rattle.rec_trace_events.specs.EventTexts.{event_value};
 ghost use Rattle.rec_trace.specs.Targets.{AreIn, Stays, Takes};
 
@@ -68,6 +68,7 @@ impl TraceTarget for VecTarget {
         ensures taken { OnOk result (Takes AreIn self.old self.new (event_value event ∷ [])) }
         ensures same { OnErr result (Stays AreIn self.old self.new) }
         ensures cause { HasCause self.old.faults self.new.faults result }
+        ensures counted { Counts self.old.faults self.new.faults result }
 
         // The call's number, when it fails, and what it takes of the spare places.
         ensures numbered { self.new.calls ≡ next_count self.old.calls }

@@ -1,4 +1,4 @@
-use Rattle.std.proofs.Common.{◌≡◌, ◌+◌, ℕ, List, [], ◌∷◌, length, map, sym, ap, subst, arith}
+use Rattle.std.proofs.Common.{◌≡◌, ◌+◌, ℕ, List, [], ◌∷◌, length, map, sym, ap, subst, ◌∙◌, arith}
 use Rattle.std.specs.Vec.Iter.{into_iter_items}
 use Rattle.rec_trace_events.specs.EventTexts.{event_value}
 use Rattle.rec_trace.proofs.putting.put_all.Goals as goal
@@ -17,7 +17,7 @@ loop-event-preserved g c =
     let rest = into_iter_items c.next.new.self in
     record {
       count = shorter _ c.in-Some.event rest steps.0 at.invariant.count steps.1;
-      later = let a = at.invariant.later in let b = c.in_ok-put.ensures.cause.later in omega arith;
+      still = c.in_ok-put.ensures.counted ∙ at.invariant.still;
       takes =
           λ new h. at.invariant.takes new
           (subst (λ xs. Takes holds at.target new (map event_value xs)) (sym steps.0)
