@@ -1,10 +1,12 @@
 -- A bundle that is accepted has the parts of a run.
 use Rattle.std.proofs.Common.{◌≡◌, ◌<◌, ◌^◌, ℕ, length, option_map, List, []}
-use Rattle.std.proofs.Common.{◌∷◌, Bool, true, false, Option, Some, None, Result}
+use Rattle.std.proofs.Common.{◌∷◌, Bool, nat_lt, true, false, Option, Some, None, Result}
 use Rattle.std.proofs.Common.{Ok, Err, refl, sym, ap, subst, ◌∙◌, if◌then◌else◌}
+use Rattle.std.proofs.lemmas.Bool.{ltb-true}
 use Rattle.std.proofs.lemmas.List.{length-map}
 use Rattle.std.proofs.lemmas.Slice.Eq.{bytes_eq-Decides}
 use Rattle.std.specs.List.{flat_map}
+use Rattle.std.specs.Option.{option_or}
 use Rattle.std.specs.Str.{bytes_eq}
 use Rattle.rec_container.specs.Container.{Entry, content_of, IsContainer}
 use Rattle.rec_container.specs.Reading.{◌>>=◌}
@@ -25,12 +27,14 @@ use Rattle.rec_portable.proofs.Judgements.{same_ok, test_ok, unless_ok}
 use Rattle.rec_portable.specs.declared.errors.PortableRecordingReadError.{
   PortableRecordingReadError,
 }
+use Rattle.rec_portable.specs.declared.upgrade_error.UpgradeError.TheVariants.{CountOutOfRange}
+use Rattle.rec_portable.specs.declared.upgrade_error.UpgradeError.{UpgradeError}
 use Rattle.rec_portable.specs.Judging.{format_checked, judged, manifest_found, manifest_read}
 use Rattle.rec_portable.specs.Judging.{store_checked, versions_checked, within}
 use Rattle.rec_portable.specs.OuterEntries.{log_found}
 use Rattle.rec_portable.specs.Upgrades.{IsReadAndBack}
 use Rattle.rec_portable.specs.Upgrading.{IsAccepted, first_foreign, names_judged}
-use Rattle.rec_portable.specs.Upgrading.{none_foreign, or_read_error}
+use Rattle.rec_portable.specs.Upgrading.{none_foreign, or_read_error, written_refusal}
 
 -- ---- the three entries
 
@@ -160,6 +164,28 @@ accepted_parts judged_read bytes limit p a =
       read = read ∙ ap Some is;
     }
 
+-- ---- how long it is written
+
+short_written : (b : Bool) (r : Option UpgradeError)
+    → option_or (if b then None else Some CountOutOfRange) r ≡ None
+    → b ≡ true
+short_written true r h = refl
+short_written false r h = absurd (let k = h in cc)
+
+-- the length of what is written of it is a u64
+accepted_short : (bytes : List ℕ) (limit : ℕ) (p : RunParts) → IsAccepted bytes limit p
+    → length (written p) < 2 ^ 64
+accepted_short bytes limit p a =
+    let o = a.0 in
+    let names = bind_ok (names_judged o.outer) _ p a.1 in
+    let run = bind_ok (or_read_error (parts_judged limit o.manifest o.log o.entries)) _ p names.2 in
+    let unnamed = bind_ok
+    (none_foreign (first_unnamed (flat_map event_paths run.0.events) o.entries)) _ p run.2 in
+    let fits = unless_ok (written_refusal limit run.0) run.0 p unnamed.2 in
+    let short = short_written (nat_lt (length (written run.0)) (2 ^ 64)) _ fits.0 in
+    subst (λ (q : RunParts). length (written q) < 2 ^ 64) fits.1
+    (ltb-true (length (written run.0)) (2 ^ 64) short)
+
 -- ---- what it is read as
 
 -- a bundle of these parts is read as their record
@@ -183,9 +209,10 @@ WrittenRead =
     → IsReading (written p) (record r { format_version = portable_version; run = settled_info p })
 
 pub accepted_read : JudgedRead → WrittenRead → (bytes : List ℕ) (limit : ℕ) (p : RunParts)
-    → IsAccepted bytes limit p → length (written p) < 2 ^ 64 → IsReadAndBack bytes p
-accepted_read judged_read written_read bytes limit p a small =
+    → IsAccepted bytes limit p → IsReadAndBack bytes p
+accepted_read judged_read written_read bytes limit p a =
     let has = accepted_parts judged_read bytes limit p a in
+    let small = accepted_short bytes limit p a in
     let r = record_of_parts has.entries p in
     let reads = record_of_bundle bytes p has in
     record {

@@ -1,12 +1,11 @@
 -- A bundle with a reading is accepted, where nothing of it is too long.
 use Rattle.std.proofs.Common.{◌≡◌, ◌≤◌, ℕ, List, [], ◌∷◌, Bool, true, false, not, ◌&&◌}
 use Rattle.std.proofs.Common.{filter, length, Option, Some, None, Result, Ok, Err, is_some}
-use Rattle.std.proofs.Common.{option_map, refl, sym, ap, subst, ◌∙◌, inl, inr, if◌then◌else◌}
+use Rattle.std.proofs.Common.{option_map, refl, sym, ap, subst, ◌∙◌, if◌then◌else◌}
 use Rattle.std.proofs.lemmas.Bool.{and_parts, le-ltb}
 use Rattle.std.specs.List.{AllByRecursion, flat_map, list_all}
 use Rattle.std.specs.Str.{bytes_eq}
-use Rattle.rec_container.proofs.Unique.{no_fault, one_reading_spec}
-use Rattle.rec_container.specs.Container.{Entry, content_of, IsContainer}
+use Rattle.rec_container.specs.Container.{Entry, content_of}
 use Rattle.rec_container.specs.Reading.{◌>>=◌}
 use Rattle.rec_forms.specs.Shape.{only}
 use Rattle.rec_forms.specs.TextForm.{bytes_form}
@@ -25,7 +24,7 @@ use Rattle.rec_store.proofs.PartLaws.{parts_of_reading}
 use Rattle.rec_store.proofs.PartsOf.{read_from, the_same}
 use Rattle.rec_store.specs.declared.read_error.RecordReadError.TheVariants as part
 use Rattle.rec_store.specs.declared.read_error.RecordReadError.{RecordReadError}
-use Rattle.rec_store.specs.Entries.{bundle_entries, log_name, manifest_name, store_name}
+use Rattle.rec_store.specs.Entries.{bundle_entries, log_name, manifest_name}
 use Rattle.rec_store.specs.JudgedParts.{events_or_fault, first_unnamed, is_named}
 use Rattle.rec_store.specs.JudgedParts.{log_judged, outputs_judged, parts_judged}
 use Rattle.rec_store.specs.Kept.{event_paths}
@@ -33,18 +32,12 @@ use Rattle.rec_store.specs.Parts.{AreWithin, found_within}
 use Rattle.rec_store.specs.Reading.{RunRecord, record_of_parts}
 use Rattle.rec_store.specs.RunParts.{RunParts, is_metadata, parts_of}
 use Rattle.rec_portable.proofs.Components.{within_limit}
-use Rattle.rec_portable.proofs.Judgements.{not_both, same_ok}
-use Rattle.rec_portable.specs.declared.errors.PortableRecordingReadError.TheVariants as opens
-use Rattle.rec_portable.specs.declared.errors.PortableRecordingReadError.{
-  PortableRecordingReadError,
-}
-use Rattle.rec_portable.specs.declared.upgrade_error.UpgradeError.TheVariants.{OutOfMemory}
+use Rattle.rec_portable.proofs.OneUpgrade.{accepted_not_refused}
 use Rattle.rec_portable.specs.declared.upgrade_error.UpgradeError.{UpgradeError}
 use Rattle.rec_portable.specs.Judging.{content_judged, judged, manifest_read, versions_checked}
-use Rattle.rec_portable.specs.OuterEntries.{IsStoreRefused, log_part}
+use Rattle.rec_portable.specs.OuterEntries.{log_part}
 use Rattle.rec_portable.specs.Upgrades.{IsUpgradable}
-use Rattle.rec_portable.specs.Upgrading.{IsAccepted, IsOpened, IsRefused, IsUnopened}
-use Rattle.rec_portable.specs.Upgrading.{names_judged, none_foreign, open_error}
+use Rattle.rec_portable.specs.Upgrading.{IsAccepted, IsOpened, IsRefused, none_foreign}
 use Rattle.rec_portable.specs.Upgrading.{or_read_error, run_judged, unless, written_refusal}
 
 -- ---- the parts of a run
@@ -161,21 +154,6 @@ module _ (limit : ℕ) (es : List Entry) (within : AreWithin es limit) where
 
 -- ---- a bundle
 
--- no refusal of a store that is a container, but want of memory
-store_opens : (store : List ℕ) (es : List Entry) → IsContainer store es
-    → (x : PortableRecordingReadError) → IsStoreRefused (Some store) x → x ≡ opens.OutOfMemory
-store_opens store es stored opens.SourceFault h = absurd h
-store_opens store es stored (opens.SpoolTooLarge limit) h = absurd h
-store_opens store es stored (opens.ReadArchive fault) h = absurd (no_fault store es fault stored h)
-store_opens store es stored (opens.NotAWrapperArchive files zips) h = absurd h
-store_opens store es stored (opens.FileTooLarge name size limit) h = absurd h
-store_opens store es stored opens.ParseManifest h = absurd h
-store_opens store es stored (opens.UnsupportedFormatVersion found supported why) h = absurd h
-store_opens store es stored (opens.UnsupportedStoreFormatVersion found supported why) h = absurd h
-store_opens store es stored (opens.MissingFile name) h = absurd h
-store_opens store es stored (opens.ExtractFile name) h = absurd h
-store_opens store es stored opens.OutOfMemory h = refl
-
 module _ (bytes : List ℕ) (limit : ℕ) (run : RunRecord) (u : IsUpgradable bytes limit run) where
   abbrev outer : List Entry
   outer = bundle_entries u.reads.manifest u.reads.log u.reads.store
@@ -220,46 +198,6 @@ module _ (bytes : List ℕ) (limit : ℕ) (run : RunRecord) (u : IsUpgradable by
   pub upgradable_accepted : IsAccepted bytes limit u.parts
   upgradable_accepted = (opened, run_accepted)
 
-  -- the bytes are opened in one way
-  same_outer : (es : List Entry) → IsContainer bytes es → es ≡ outer
-  same_outer es h = one_reading_spec bytes es outer h u.reads.bundled
-
-  unopened : (x : PortableRecordingReadError) → IsUnopened bytes limit x → x ≡ opens.OutOfMemory
-  unopened x (inl none) = absurd (no_fault bytes outer none.0 u.reads.bundled none.2)
-  unopened x (inr (inl refused)) =
-      absurd
-      (not_both _ _ _ judges (ap (judged limit) (sym (same_outer refused.0 refused.1)) ∙ refused.2))
-  unopened x (inr (inr (inl refused))) =
-      absurd
-      (not_both _ _ _ logs (ap (log_part limit) (sym (same_outer refused.0 refused.2)) ∙ refused.4))
-  unopened x (inr (inr (inr refused))) =
-      let found =
-      ap (λ (es : List Entry). content_of es store_name) (same_outer refused.0 refused.3) in
-      store_opens u.reads.store u.reads.entries u.reads.stored x
-      (subst (λ (o : Option (List ℕ)). IsStoreRefused o x) found refused.6)
-
-  abbrev with_names : List Entry → PortableManifest → List ℕ → List Entry
-      → Result RunParts UpgradeError
-  with_names all m log es = names_judged all >>= (λ _. run_judged limit m log es)
-
-  opened_same : (o : IsOpened bytes limit)
-      → with_names o.outer o.manifest o.log o.entries ≡ Ok u.parts
-  opened_same o =
-      let all = same_outer o.outer o.spelled in
-      let m : o.manifest ≡ u.manifest =
-      same_ok PortableRecordingReadError _ _ (sym o.is_judged ∙ ap (judged limit) all ∙ judges) in
-      let log : o.log ≡ u.reads.log =
-      same_ok PortableRecordingReadError _ _ (sym o.log_read ∙ ap (log_part limit) all ∙ logs) in
-      let store : o.store ≡ u.reads.store =
-      the_same _ _ (sym o.store_found ∙ ap (λ (es : List Entry). content_of es store_name) all) in
-      let es : o.entries ≡ u.reads.entries = one_reading_spec u.reads.store _ _
-      (subst (λ (b : List ℕ). IsContainer b o.entries) store o.stored) u.reads.stored in
-      ap (λ (fs : List Entry). with_names fs o.manifest o.log o.entries) all
-      ∙ ap (λ (x : PortableManifest). with_names outer x o.log o.entries) m
-      ∙ ap (λ (l : List ℕ). with_names outer u.manifest l o.entries) log
-      ∙ ap (with_names outer u.manifest u.reads.log) es
-      ∙ run_accepted
-
-  pub upgradable_not_refused : (e : UpgradeError) → IsRefused bytes limit e → e ≡ OutOfMemory
-  upgradable_not_refused e (inl refused) = refused.1 ∙ ap open_error (unopened refused.0 refused.2)
-  upgradable_not_refused e (inr refused) = absurd (not_both _ _ _ (opened_same refused.0) refused.1)
+  pub upgradable_not_refused : (e : UpgradeError) → IsRefused bytes limit e → ⊥
+  upgradable_not_refused e refused =
+      accepted_not_refused bytes limit u.parts e upgradable_accepted refused

@@ -15,6 +15,9 @@ bind_ok (Err e) f y h = absurd (let k = h in cc)
 pub same_ok : {A : Type 0} (E : Type 0) (x y : A) → ◌≡◌ {A = Result A E} (Ok x) (Ok y) → x ≡ y
 same_ok E x y h = let k = h in cc
 
+pub same_err : {E : Type 0} (A : Type 0) (x y : E) → ◌≡◌ {A = Result A E} (Err x) (Err y) → x ≡ y
+same_err A x y h = let k = h in cc
+
 -- what is both accepted and refused
 pub not_both : {A E : Type 0} (r : Result A E) (x : A) (e : E) → r ≡ Ok x → r ≡ Err e → ⊥
 not_both (Ok y) x e h g = let k = g in cc

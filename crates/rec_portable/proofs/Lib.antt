@@ -6,6 +6,7 @@ pub mod EntriesLeft
 pub mod JudgedOutputs
 pub mod JudgedSizes
 pub mod Judgements
+pub mod OneUpgrade
 pub mod Opened
 pub mod Places
 pub mod RewrittenLogs

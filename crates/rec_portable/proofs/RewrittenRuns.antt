@@ -99,14 +99,15 @@ module _ (bytes : List ℕ) (limit : ℕ) (outer : List Entry) (m : PortableMani
       → (e ≡ OutOfMemory) ⊎ IsRefused bytes limit e
   log_unread e x is (inl memory) = inl (is ∙ ap open_error memory)
   log_unread e x is (inr refused) =
-      not_opened e x is (inr (inr (inl (outer, m, spelled, is_judged, refused))))
+      not_opened e x is (inr (outer, spelled, inr (inl (m, is_judged, refused))))
 
   module _ (log : List ℕ) (log_read : log_part limit outer ≡ Ok log) where
     pub store_unopened : (e : UpgradeError) (x : PortableRecordingReadError) → e ≡ open_error x
-        → IsStoreRefused (content_of outer store_name) x
+        → (x ≡ opens.OutOfMemory) ⊎ IsStoreRefused (content_of outer store_name) x
         → (e ≡ OutOfMemory) ⊎ IsRefused bytes limit e
-    store_unopened e x is refused =
-        not_opened e x is (inr (inr (inr (outer, m, log, spelled, is_judged, log_read, refused))))
+    store_unopened e x is (inl memory) = inl (is ∙ ap open_error memory)
+    store_unopened e x is (inr refused) =
+        not_opened e x is (inr (outer, spelled, inr (inr (m, log, is_judged, log_read, refused))))
 
     module _ (store : List ℕ) (es : List Entry) (found : content_of outer store_name ≡ Some store)
         (stored : IsContainer store es) where
@@ -156,7 +157,7 @@ store_found limit None r h = absurd h
 store_found limit (Some store) r h = (store, refl, h.1)
 
 pub store_refused : (limit : ℕ) (o : Option (List ℕ)) (x : PortableRecordingReadError)
-    → OpensStore limit o (Err x) → IsStoreRefused o x
+    → OpensStore limit o (Err x) → (x ≡ opens.OutOfMemory) ⊎ IsStoreRefused o x
 store_refused limit None x h = h
 store_refused limit (Some store) x h = h
 

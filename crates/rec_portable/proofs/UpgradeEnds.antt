@@ -57,8 +57,8 @@ module _ {S B : Type 0} (left : S → Option (List ℕ)) (source_faults : S → 
       let same = given_all (left s0) (left s1) bytes n.0 has n.1.gave n.1.ended in
       elim n.2 [
         | inl memory ↦ memory
-        | inr refused ↦ upgradable_not_refused bytes limit run u e
-            (subst (λ (b : List ℕ). IsRefused b limit e) same refused)
+        | inr refused ↦ absurd (upgradable_not_refused bytes limit run u e
+            (subst (λ (b : List ℕ). IsRefused b limit e) same refused))
       ]
   not_upgraded e (inr (inr n)) = absurd (sink n.5)
 

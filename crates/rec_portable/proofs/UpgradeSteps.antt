@@ -1,6 +1,6 @@
 -- The steps of an upgrade, and how each of them may end.
-use Rattle.std.proofs.Common.{◌≡◌, ◌<◌, ◌^◌, ◌⊎◌, inl, inr, ℕ, List}
-use Rattle.std.proofs.Common.{length, Option, refl, ap, sym, subst, ◌∙◌}
+use Rattle.std.proofs.Common.{◌≡◌, ◌⊎◌, inl, inr, ℕ, List}
+use Rattle.std.proofs.Common.{Option, refl, ap, sym, subst, ◌∙◌}
 use Rattle.std.specs.Io.KnownBytes.{Appends}
 use Rattle.rec_container.specs.Causes.{Rose}
 use Rattle.rec_container.specs.Container.{spell}
@@ -26,7 +26,7 @@ refuses : (bytes : List ℕ) (limit : ℕ) (e : UpgradeError) (x : PortableRecor
     → e ≡ open_error x → Refuses bytes limit x → (e ≡ OutOfMemory) ⊎ IsRefused bytes limit e
 refuses bytes limit e x is (inl memory) = inl (is ∙ ap open_error memory)
 refuses bytes limit e x is (inr (inl none)) = inr (inl (x, is, inl none))
-refuses bytes limit e x is (inr (inr j)) = inr (inl (x, is, inr (inl (j.0, j.1, j.2))))
+refuses bytes limit e x is (inr (inr j)) = inr (inl (x, is, inr (j.0, j.1, inl j.2)))
 
 module _ {S B : Type 0} (left : S → Option (List ℕ)) (source_faults : S → ℕ)
     (taken : B → Option (List ℕ)) (faults : B → ℕ) (spool limit : ℕ) (s0 s1 : S) where
@@ -74,7 +74,7 @@ module _ {S B : Type 0} (left : S → Option (List ℕ)) (source_faults : S → 
       ))
 
       pub delivered : ((bytes : List ℕ) (n : ℕ) (q : RunParts) → IsAccepted bytes n q
-          → length (written q) < 2 ^ 64 → IsReadAndBack bytes q)
+          → IsReadAndBack bytes q)
           → Appends (taken b0) (taken b1)
           (spell (bundle_entries r.manifest.items r.log.items r.store.items))
           → Upgrades left source_faults taken faults spool limit s0 s1 b0 b1 r.upgraded
@@ -83,7 +83,7 @@ module _ {S B : Type 0} (left : S → Option (List ℕ)) (source_faults : S → 
         gave = opens.gave;
         parts = p;
         accepted = within;
-        reads = read o.bytes limit p within is.short;
+        reads = read o.bytes limit p within;
         took = subst (Appends (taken b0) (taken b1)) same took;
         counts = is.counts;
       }

@@ -1,14 +1,12 @@
 -- The entries of a bundle: its log, its store, and any other.
 use Rattle.std.specs.Io.KnownBytes.{Appends}
-use Rattle.std.specs.Prelude.{◌≡◌, ◌≤◌, IfErr, Bool, ◌&&◌, ℕ, nat_lt, List, length}
+use Rattle.std.specs.Prelude.{◌≡◌, ◌⊎◌, ◌≤◌, IfErr, Bool, ◌&&◌, ℕ, nat_lt, List, length}
 use Rattle.std.specs.Prelude.{Option, Some, None, Result, Ok, Err, if◌then◌else◌}
 use Rattle.rec_container.specs.Causes.{Rose}
 use Rattle.rec_container.specs.Container.{Entry, content_of, IsContainer}
-use Rattle.rec_container.specs.Reading.{IsFault}
 use Rattle.rec_container.specs.Taking.{TookPart}
 use Rattle.rec_store.specs.Entries.{log_name, store_name}
 use Rattle.rec_portable.specs.declared.errors.PortableRecordingReadError.TheVariants.{
-  ReadArchive,
   MissingFile,
   ExtractFile,
   OutOfMemory,
@@ -17,7 +15,7 @@ use Rattle.rec_portable.specs.declared.errors.PortableRecordingReadError.{
   PortableRecordingReadError,
 }
 use Rattle.rec_portable.specs.declared.extraction.ExtractOuterFileResult.{ExtractOuterFileResult}
-use Rattle.rec_portable.specs.Judging.{within}
+use Rattle.rec_portable.specs.Judging.{IsNoContainer, within}
 use Rattle.rec_portable.specs.Stores.{StoreReading}
 
 -- the log that was found, as far as the limit allows
@@ -31,19 +29,15 @@ log_part limit es = log_found limit (content_of es log_name)
 
 -- the store is missing, or it is no container and this is its first fault
 abbrev pub IsStoreRefused : Option (List ℕ) → PortableRecordingReadError → Type 0
-IsStoreRefused found OutOfMemory = Unit {0}
-IsStoreRefused None (MissingFile name) = name ≡ store_name
-IsStoreRefused (Some bytes) (MissingFile name) = ⊥
-IsStoreRefused None (ReadArchive fault) = ⊥
-IsStoreRefused (Some bytes) (ReadArchive fault) = IsFault bytes fault
-IsStoreRefused found e = ⊥
+IsStoreRefused None e = e ≡ MissingFile store_name
+IsStoreRefused (Some bytes) e = IsNoContainer bytes e
 
--- the reader has the entries of the store that was found
+-- the reader has the entries of the store that was found; or memory ran out, or it is refused
 abbrev pub OpensStore : ℕ → Option (List ℕ) → Result StoreReading PortableRecordingReadError
     → Type 0
 OpensStore limit None (Ok r) = ⊥
 OpensStore limit (Some bytes) (Ok r) = (r.limit ≡ limit) × IsContainer bytes r.entries
-OpensStore limit found (Err e) = IsStoreRefused found e
+OpensStore limit found (Err e) = (e ≡ OutOfMemory) ⊎ IsStoreRefused found e
 
 -- the size, where the limit is to be checked and is passed
 abbrev pub exceeded_limit : Bool → ℕ → ℕ → Option ℕ

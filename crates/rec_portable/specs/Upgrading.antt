@@ -119,17 +119,19 @@ upgrade_judged bytes limit o = do
   _ ← names_judged o.outer
   run_judged limit o.manifest o.log o.entries
 
--- the bundle isn't opened: its bytes are no container, its manifest is refused, its log,
--- or its store
+-- the manifest of a bundle is refused, then its log, or then its store
+abbrev pub IsPartRefused : ℕ → List Entry → PortableRecordingReadError → Type 0
+IsPartRefused limit outer e =
+    (judged limit outer ≡ Err e)
+    ⊎ ((m : PortableManifest) × (judged limit outer ≡ Ok m) × (log_part limit outer ≡ Err e))
+    ⊎ ((m : PortableManifest) × (log : List ℕ) × (judged limit outer ≡ Ok m)
+    × (log_part limit outer ≡ Ok log) × IsStoreRefused (content_of outer store_name) e)
+
+-- the bundle isn't opened: its bytes are no container, or one of its parts is refused
 abbrev pub IsUnopened : List ℕ → ℕ → PortableRecordingReadError → Type 0
 IsUnopened bytes limit e =
     IsNoContainer bytes e
-    ⊎ ((outer : List Entry) × IsContainer bytes outer × (judged limit outer ≡ Err e))
-    ⊎ ((outer : List Entry) × (m : PortableManifest) × IsContainer bytes outer
-    × (judged limit outer ≡ Ok m) × (log_part limit outer ≡ Err e))
-    ⊎ ((outer : List Entry) × (m : PortableManifest) × (log : List ℕ) × IsContainer bytes outer
-    × (judged limit outer ≡ Ok m) × (log_part limit outer ≡ Ok log)
-    × IsStoreRefused (content_of outer store_name) e)
+    ⊎ ((outer : List Entry) × IsContainer bytes outer × IsPartRefused limit outer e)
 
 -- the bytes are those of a bundle with these parts, and nothing of it is refused
 abbrev pub IsAccepted : List ℕ → ℕ → RunParts → Type 0

@@ -16,7 +16,6 @@ ghost use Rattle.rec_portable.specs.Components.{AreComponents};
 ghost use Rattle.rec_portable.specs.declared.errors.PortableRecordingReadError.{
   PortableRecordingReadError,
 };
-ghost use Rattle.rec_portable.specs.declared.upgrade_error.UpgradeError.TheVariants.{OutOfMemory};
 ghost use Rattle.rec_portable.specs.declared.upgrade_error.UpgradeError.{UpgradeError};
 ghost use Rattle.rec_portable.specs.Judging.{IsJudged, IsNoContainer};
 ghost use Rattle.rec_portable.specs.Upgrades.{IsReadAndBack, IsUpgradable};
@@ -54,7 +53,7 @@ pub fn parts_are_components()
 {}
 
 /// States that a bundle with a reading is accepted, where its versions are read and nothing that is
-/// read or to be written is too long, and that nothing of it is refused.
+/// read or to be written is too long, and that it isn't refused.
 pub fn readable_bundles_are_upgraded()
     ensures accepted { (bytes : List ℕ) (limit : ℕ) (run : RunRecord)
         (u : IsUpgradable bytes limit run)
@@ -62,15 +61,31 @@ pub fn readable_bundles_are_upgraded()
     ensures refused { (bytes : List ℕ) (limit : ℕ) (run : RunRecord) (e : UpgradeError)
         → IsUpgradable bytes limit run
         → IsRefused bytes limit e
-        → e ≡ OutOfMemory }
+        → ⊥ }
 {}
 
-/// States that what is accepted is read, and that what is written of it, where its length is a u64,
-/// is read as the same but for the versions and the sizes.
+/// States that bytes are upgraded in one way: they are accepted with the parts of one run, or they
+/// have one first refusal, and not both.
+pub fn one_upgrade()
+    ensures accepted { (bytes : List ℕ) (limit : ℕ) (p q : RunParts)
+        → IsAccepted bytes limit p
+        → IsAccepted bytes limit q
+        → p ≡ q }
+    ensures refused { (bytes : List ℕ) (limit : ℕ) (e f : UpgradeError)
+        → IsRefused bytes limit e
+        → IsRefused bytes limit f
+        → e ≡ f }
+    ensures either { (bytes : List ℕ) (limit : ℕ) (p : RunParts) (e : UpgradeError)
+        → IsAccepted bytes limit p
+        → IsRefused bytes limit e
+        → ⊥ }
+{}
+
+/// States that what is accepted is read, and that what is written of it is read as the same but for
+/// the versions and the sizes.
 pub fn accepted_bundles_are_read()
     ensures { (bytes : List ℕ) (limit : ℕ) (p : RunParts)
         → IsAccepted bytes limit p
-        → length (written p) < 2 ^ 64
         → IsReadAndBack bytes p }
 {
     judged_parts_are_read();

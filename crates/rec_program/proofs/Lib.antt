@@ -11,5 +11,4 @@ pub mod RunsSalvaged
 pub mod SamplesRecorded
 pub mod StatusesAbove
 pub mod Traced
-pub mod UpgradesJudged
 pub mod WritingCommands

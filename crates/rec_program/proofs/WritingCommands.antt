@@ -13,6 +13,7 @@ use Rattle.rec_format.specs.declared.manifest.PortableManifest.{PortableManifest
 use Rattle.rec_store.specs.declared.read_error.RecordReadError.TheVariants as parts
 use Rattle.rec_store.specs.declared.read_error.RecordReadError.{RecordReadError}
 use Rattle.rec_store.specs.RunParts.{RunParts, written}
+use Rattle.rec_portable.proofs.OneUpgrade.{accepted_not_refused}
 use Rattle.rec_portable.specs.declared.errors.PortableRecordingReadError.{
   PortableRecordingReadError,
 }
@@ -36,7 +37,6 @@ use Rattle.rec_program.proofs.Commands.{printed_of}
 use Rattle.rec_program.proofs.RunsSalvaged.{stopped_unfound}
 use Rattle.rec_program.proofs.StatusesAbove.{bundle_above}
 use Rattle.rec_program.proofs.StatusesAbove.{salvage_above}
-use Rattle.rec_program.proofs.UpgradesJudged.{accepted_unrefused}
 use Rattle.rec_program.specs.Counts.{counts_line}
 use Rattle.rec_program.specs.declared.salvage_refusal.SalvageRefusal.TheVariants.{
   Bundle,
@@ -149,8 +149,9 @@ module _ {S B G : Type 0} (left : S → Option (List ℕ)) (source_faults : S �
     only_memory e (inr (inl (given, gave, inl h, kept))) = h
     only_memory e (inr (inl (given, gave, inr refused, kept))) =
         let same = same_session (left s0) (left s1) bytes given has gave.gave gave.ended in
-        accepted_unrefused bytes settings.read_limit parts is e
-        (subst (λ (b : List ℕ). IsRefused b settings.read_limit e) same refused)
+        absurd
+        (accepted_not_refused bytes settings.read_limit parts e is
+        (subst (λ (b : List ℕ). IsRefused b settings.read_limit e) same refused))
     only_memory e (inr (inr f)) = absurd (sink f.5)
 
     -- what can be upgraded is upgraded, unless memory runs out or an object fails

@@ -29,22 +29,12 @@ use Rattle.rec_reading.specs.Stores.{archive_read, store_found, store_part}
 -- ---- the store
 
 pub store_refused : (found : Option (List ℕ)) (e : PortableRecordingReadError)
-    → IsStoreRefused found e → (e ≡ bundles.OutOfMemory) ⊎ (store_found found ≡ Err e)
-store_refused None (bundles.MissingFile name) h =
-    inr (ap (λ n. Err (bundles.MissingFile n)) (sym h))
-store_refused (Some bytes) (bundles.MissingFile name) h = absurd h
-store_refused None (bundles.ReadArchive fault) h = absurd h
-store_refused (Some bytes) (bundles.ReadArchive fault) h =
-    inr (ap archive_read (entries_of_fault bytes fault h))
-store_refused found bundles.OutOfMemory h = inl refl
-store_refused found bundles.SourceFault h = absurd h
-store_refused found (bundles.SpoolTooLarge limit) h = absurd h
-store_refused found (bundles.NotAWrapperArchive files zips) h = absurd h
-store_refused found (bundles.FileTooLarge name size limit) h = absurd h
-store_refused found bundles.ParseManifest h = absurd h
-store_refused found (bundles.UnsupportedFormatVersion version supported why) h = absurd h
-store_refused found (bundles.UnsupportedStoreFormatVersion version supported why) h = absurd h
-store_refused found (bundles.ExtractFile name) h = absurd h
+    → (e ≡ bundles.OutOfMemory) ⊎ IsStoreRefused found e
+    → (e ≡ bundles.OutOfMemory) ⊎ (store_found found ≡ Err e)
+store_refused found e (inl memory) = inl memory
+store_refused None e (inr missing) = inr (ap Err (sym missing))
+store_refused (Some bytes) e (inr none) =
+    inr (ap archive_read (entries_of_fault bytes none.0 none.2) ∙ ap Err (sym none.1))
 
 pub store_opened : (limit : ℕ) (found : Option (List ℕ)) (store : StoreReading)
     → OpensStore limit found (Ok store)

@@ -13,6 +13,7 @@ use Rattle.rec_codec.specs.Lines.{lines, numbered}
 use Rattle.rec_store.specs.declared.read_error.RecordReadError.{RecordReadError}
 use Rattle.rec_store.specs.Entries.{record_opts_path, test_list_path}
 use Rattle.rec_store.specs.Parts.{metadata_part}
+use Rattle.rec_portable.specs.declared.errors.PortableRecordingReadError.TheVariants as bundles
 use Rattle.rec_portable.specs.declared.errors.PortableRecordingReadError.{
   PortableRecordingReadError,
 }
@@ -68,12 +69,12 @@ abbrev pub Answers : {T : Type 0} → Result T ReadingError → Result T Reading
 Answers expected (Ok x) = expected ≡ Ok x
 Answers expected (Err e) = (e ≡ OutOfMemory) ⊎ (expected ≡ Err e)
 
--- the entries of the store that was found, or why it isn't read
+-- the entries of the store that was found, or memory ran out, or the store is refused
 abbrev pub OpensStored : Option (List ℕ) → Result ParsedContainer PortableRecordingReadError
     → Type 0
 OpensStored None (Ok c) = ⊥
 OpensStored (Some bytes) (Ok c) = IsContainer bytes c.entries
-OpensStored found (Err e) = IsStoreRefused found e
+OpensStored found (Err e) = (e ≡ bundles.OutOfMemory) ⊎ IsStoreRefused found e
 
 -- the entries of a container that was read, or why it isn't, but for want of memory
 abbrev pub OpensEntries : Result (List Entry) ReadingError → Result ParsedContainer ReadingError
