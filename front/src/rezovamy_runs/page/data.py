@@ -13,14 +13,16 @@ from collections.abc import Sequence
 from typing import Literal, NotRequired, TypeAlias, TypedDict
 
 from rezovamy_runs import formatting
-from rezovamy_runs.model import Attempt, Run, Script, Status, Test, Verdict
+from rezovamy_runs.model import Attempt, Run, Script, Status, Test, TestName, Verdict
 from rezovamy_runs.page.about import PageCommand, PageFact, command_of, facts_of
 from rezovamy_runs.page.bands import PageBand
 from rezovamy_runs.page.causes import PageCause, cause_of, grouped
 from rezovamy_runs.page.past import PagePast, Past, page_past
 from rezovamy_runs.store.notes import RunNotes
 
-State: TypeAlias = Literal["failed", "unfinished", "flaky", "passed", "skipped", "script"]
+State: TypeAlias = Literal[
+    "failed", "unfinished", "not-started", "flaky", "passed", "skipped", "script"
+]
 
 
 class PageOutput(TypedDict):
@@ -79,7 +81,10 @@ class PageRun(TypedDict):
 
 
 class PageData(TypedDict):
-    """All that a page knows; `marks` are instants with what is written at them."""
+    """All that a page knows; `marks` are instants with what is written at them.
+
+    `unnamed` is how many tests were announced, never started and have no name.
+    """
 
     run: PageRun
     facts: list[PageFact]
@@ -87,6 +92,7 @@ class PageData(TypedDict):
     binaries: list[str]
     commands: list[PageCommand | None]
     tests: list[PageTest]
+    unnamed: int
     causes: list[PageCause]
     outputs: list[PageOutput]
     notes: list[str]
@@ -292,19 +298,18 @@ def page_script(script: Script, begin: int, outputs: Outputs) -> PageTest:
     return made
 
 
+def page_waiting(key: TestName, binaries: Binaries) -> PageTest:
+    """Return a test that never started."""
+    return {"name": key.test, "state": "not-started", "binary": binaries.place(key.binary)}
+
+
 def notes_of(run: Run, outputs: Outputs) -> list[str]:
     """Return what a reader has to know before all else."""
     notes = []
-    unnamed = run.counts.unseen - sum(test.verdict is Verdict.UNFINISHED for test in run.tests)
     if run.status is Status.INCOMPLETE:
         notes.append("The run was broken off, or the recording of it was: it has no end.")
     if run.cancelled_for:
         notes.append(f"The run was cancelled: {reason_text(run.cancelled_for)}.")
-    if unnamed > 0:
-        were = "was" if unnamed == 1 else "were"
-        notes.append(
-            f"{formatting.count(unnamed, 'test')} more {were} announced, and never started."
-        )
     if outputs.left_out:
         left_out = formatting.count(outputs.left_out, "different output")
         have = "has" if outputs.left_out == 1 else "have"
@@ -348,6 +353,11 @@ def causes_of(run: Run) -> list[PageCause]:
     return grouped(scripts + tests)
 
 
+def names_of(run: Run) -> list[TestName]:
+    """Return the names of all tests of a run, in the order in which its page has them."""
+    return [*(test.key for test in run.tests), *run.never_started]
+
+
 def page_data(
     run: Run,
     outputs: Outputs,
@@ -362,14 +372,16 @@ def page_data(
     binaries = Binaries()
     begin, end = run.extent
     scripts = [page_script(script, begin, outputs) for script in run.scripts]
-    tests = scripts + page_tests(run.tests, begin, outputs, binaries)
+    ran = page_tests(run.tests, begin, outputs, binaries)
+    waiting = [page_waiting(key, binaries) for key in run.never_started]
     return {
         "run": page_run(run),
         "facts": facts_of(notes),
         "source": source,
         "binaries": list(binaries.places),
         "commands": [command_of(binary) for binary in binaries.places],
-        "tests": tests,
+        "tests": [*scripts, *ran, *waiting],
+        "unnamed": run.unnamed,
         "causes": causes_of(run),
         "outputs": outputs.kept,
         "notes": notes_of(run, outputs),
@@ -379,5 +391,5 @@ def page_data(
         ],
         "end": end - begin,
         "bands": [],
-        "past": page_past(past, run.tests) if past else None,
+        "past": page_past(past, names_of(run)) if past else None,
     }

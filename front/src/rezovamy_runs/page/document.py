@@ -37,6 +37,7 @@ SCRIPTS = (
     "timeline",
     "drawing",
     "selection",
+    "slots",
     "pointing",
     "address",
     "past",
@@ -103,7 +104,7 @@ def content_policy(script: str, style: str) -> str:
 def page_title(value: PageData) -> str:
     """Return the name of the page's window.
 
-    It says how many tests failed or never ended, if any, or passed.
+    It says how many tests failed, never ended or never started, if any, or passed.
     """
     states = [test["state"] for test in value["tests"]]
     runs_of_scripts = [
@@ -117,6 +118,7 @@ def page_title(value: PageData) -> str:
         "failed": states.count("failed"),
         "setup failed": sum("bad" in attempt for attempt in runs_of_scripts),
         "unfinished": states.count("unfinished") + unfinished,
+        "never started": states.count("not-started") + value["unnamed"],
     }
     passed = states.count("passed") + states.count("flaky")
     told = next((f"{count} {word}" for word, count in counts.items() if count), f"{passed} passed")
