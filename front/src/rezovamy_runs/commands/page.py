@@ -9,7 +9,7 @@ import sys
 
 from rezovamy_runs.bundles import bundle_file
 from rezovamy_runs.command_line import add_run, options_of, print_out, whole
-from rezovamy_runs.commands import page_past
+from rezovamy_runs.commands import page_opening, page_past
 from rezovamy_runs.faults.fault import Fault
 from rezovamy_runs.page import document
 from rezovamy_runs.page.data import MOST_OUTPUT
@@ -29,6 +29,7 @@ class Options:
     to: str | None
     most_output: int
     source: str | None
+    opens: bool
 
 
 def add_options(parser: argparse.ArgumentParser) -> None:
@@ -54,11 +55,14 @@ def add_options(parser: argparse.ArgumentParser) -> None:
         help="where the sources are, as https://host/project/blob/{commit}/{file}#L{line} "
         "(the run's note `source`)",
     )
+    page_opening.add_option(parser, "open the page in a browser too")
 
 
 def run(words: argparse.Namespace) -> int:
     """Write the page, and print where it is."""
     options = options_of(Options, words)
+    if options.opens and options.to == STANDARD_OUTPUT:
+        page_opening.refuse_for_output()
     runs = run_folder.here()
     chosen = runs.find_all(options.run)
     text, own = page_of(runs, chosen, options)
@@ -67,6 +71,8 @@ def run(words: argparse.Namespace) -> int:
     else:
         target = pathlib.Path(options.to) if options.to else own
         print_out(f"{written(text, target)}\n")
+        if options.opens:
+            page_opening.open_page(target)
     return 0
 
 
