@@ -82,7 +82,8 @@ def test_all_numbers_count_the_same_tests(page: Page) -> None:
     assert page.texts(states) == ["8", "1", "1", "1"]
     items = "document.querySelectorAll('.cause .item, section > .items .why').length"
     assert page.number(items) == 9
-    row = "[...document.querySelectorAll('tbody td')].slice(1, 5).map((one) => one.innerText)"
+    cells = "[...document.querySelectorAll('.binaries td')]"
+    row = f"{cells}.slice(1, 5).map((one) => one.innerText)"
     assert page.texts(row) == ["8", "1", "1", "1"]
 
 
@@ -120,8 +121,8 @@ def test_tests_that_never_started_are_counted(
     told = "#details > section .item .name, #details > section > .more"
     shown = f"[...document.querySelectorAll('{told}')].map((one) => one.innerText)"
     assert page.texts(shown) == items
-    rows = "[...document.querySelectorAll('tbody tr')].map((row) => row.children[1].innerText)"
-    assert sum(map(int, page.texts(rows))) == total
+    cells = "[...document.querySelectorAll('.binaries td:nth-child(2)')]"
+    assert sum(map(int, page.texts(f"{cells}.map((cell) => cell.innerText)"))) == total
     assert page.rows() == [*named, "passes"]
 
 

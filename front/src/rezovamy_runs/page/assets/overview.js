@@ -152,8 +152,9 @@ function table_of_binaries() {
   const table = element("table", "", head, element("tbody", "", ...body));
   const left = worst.length - body.length;
   const told = `${plural(left, "binary", "binaries")} more aren't shown`;
-  return element("section", "", element("h3", "", "Binaries"), element("div", "wide-table", table),
-    left ? element("p", "more", told) : "", element("p", "more", HOW_TESTS_COUNT));
+  return element("section", "binaries", element("h3", "", "Binaries"),
+    element("div", "wide-table", table), left ? element("p", "more", told) : "",
+    element("p", "more", HOW_TESTS_COUNT));
 }
 
 function about_run() {
