@@ -7,6 +7,7 @@ import dataclasses
 import pathlib
 import sys
 
+from rezovamy_runs import quarantine
 from rezovamy_runs.bundles import bundle_file
 from rezovamy_runs.command_line import add_run, options_of, print_out, whole
 from rezovamy_runs.commands import page_opening, page_past
@@ -82,15 +83,19 @@ def page_of(runs: Store, chosen: Chosen, options: Options) -> tuple[str, pathlib
     if chosen.group is None:
         return page_text(runs, first, options.most_output, options.source), beside(first)
     name = f"group-{location.NOT_PLAIN.sub('_', chosen.group)}.html"
-    text = document.page_of_group(chosen.group, chosen.paths, options.most_output, options.source)
+    excused = quarantine.of(runs)
+    text = document.page_of_group(
+        chosen.group, chosen.paths, options.most_output, options.source, excused
+    )
     return text, first.parent / name
 
 
 def page_text(
     runs: Store, path: pathlib.Path, most_output: int = MOST_OUTPUT, source: str | None = None
 ) -> str:
-    """Return the page of the bundle at a path, with what the history of the runs says."""
-    return document.page_of(path, most_output, source, page_past.past_of(runs, path))
+    """Return the page of the bundle at a path, with what history and quarantine say."""
+    past, excused = page_past.past_of(runs, path), quarantine.of(runs)
+    return document.page_of(path, most_output, source, past, excused)
 
 
 def print_page(text: str) -> None:

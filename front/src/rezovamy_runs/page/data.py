@@ -18,6 +18,7 @@ from rezovamy_runs.page.about import PageCommand, PageFact, command_of, facts_of
 from rezovamy_runs.page.bands import PageBand
 from rezovamy_runs.page.causes import PageCause, cause_of, grouped
 from rezovamy_runs.page.past import PagePast, Past, page_past
+from rezovamy_runs.quarantine import NOTHING, Entry, Quarantine
 from rezovamy_runs.store.notes import RunNotes
 
 State: TypeAlias = Literal[
@@ -63,6 +64,7 @@ class PageTest(TypedDict):
     reason: NotRequired[str]
     stress: NotRequired[int]
     flaky_fails: NotRequired[bool]
+    quarantine: NotRequired[str]
     attempts: NotRequired[list[PageAttempt]]
 
 
@@ -353,6 +355,23 @@ def causes_of(run: Run) -> list[PageCause]:
     return grouped(scripts + tests)
 
 
+def quarantined(
+    tests: Sequence[PageTest], names: Sequence[TestName], excused: Quarantine
+) -> list[PageTest]:
+    """Return tests with these names; those in quarantine say until when and why."""
+    found = []
+    for test, name in zip(tests, names, strict=True):
+        entry = excused.entry_of(name)
+        found.append({**test, "quarantine": quarantine_text(entry)} if entry else test)
+    return found
+
+
+def quarantine_text(entry: Entry) -> str:
+    """Return what is said of a test in quarantine."""
+    until = f" until {entry.until}" if entry.until else ""
+    return f"in quarantine{until}{f': {entry.reason}' if entry.reason else ''}"
+
+
 def names_of(run: Run) -> list[TestName]:
     """Return the names of all tests of a run, in the order in which its page has them."""
     return [*(test.key for test in run.tests), *run.never_started]
@@ -364,10 +383,12 @@ def page_data(
     notes: RunNotes | None = None,
     source: str | None = None,
     past: Past | None = None,
+    excused: Quarantine = NOTHING,
 ) -> PageData:
     """Return all that a page knows of a run.
 
-    `source` is the pattern of links to its sources, and `past` how its tests ended before.
+    `source` is the pattern of links to its sources, `past` how its tests ended before, and
+    `excused` says which are in quarantine.
     """
     binaries = Binaries()
     begin, end = run.extent
@@ -380,7 +401,7 @@ def page_data(
         "source": source,
         "binaries": list(binaries.places),
         "commands": [command_of(binary) for binary in binaries.places],
-        "tests": [*scripts, *ran, *waiting],
+        "tests": [*scripts, *quarantined([*ran, *waiting], names_of(run), excused)],
         "unnamed": run.unnamed,
         "causes": causes_of(run),
         "outputs": outputs.kept,

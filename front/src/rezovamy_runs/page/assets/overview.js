@@ -29,7 +29,8 @@ function item(test, { reason = "", bar = false } = {}) {
   const name = element("span", "name", safe_nodes(test.name), " ", place);
   titled(name, `${test.name} ${test.place}`);
   const tries = test.attempts.length > 1 ? `${test.attempts.length} attempts` : "";
-  const took = [tries, time_of(test)].filter(Boolean).join(", ");
+  const excused = test.quarantine ? "in quarantine" : "";
+  const took = [excused, tries, time_of(test)].filter(Boolean).join(", ");
   button.append(state_mark(test.end), name, element("span", "took", took));
   if (reason) button.append(element("span", "why", safe_nodes(reason)));
   if (bar) {
