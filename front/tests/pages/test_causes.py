@@ -128,7 +128,7 @@ def test_tests_that_never_started_are_counted(
 
 def test_the_page_says_how_tests_count(page: Page) -> None:
     page.open(with_causes())
-    said = "Each number counts a test once, by how it ended at last. Setup scripts are no tests."
+    said = "Each number counts a test once, by how it ended at last. Setup scripts aren't tests."
     assert said in page.details()
 
 

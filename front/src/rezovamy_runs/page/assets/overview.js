@@ -114,7 +114,7 @@ function line_of_binary(name, sum, states) {
 }
 
 const HOW_TESTS_COUNT = "Each number counts a test once, by how it ended at last. "
-  + "Setup scripts are no tests.";
+  + "Setup scripts aren't tests.";
 
 function sum_of_no_test() {
   return { ...Object.fromEntries(STATES_OF_TESTS.map((state) => [state, 0])), seconds: 0 };

@@ -21,8 +21,8 @@ function source_address(file, line) {
   return RUN.source.replaceAll("{file}", path).replaceAll("{line}", line);
 }
 
-// Makes links of the places in the texts below a node; a path from the root, or out of the folder of
-// the project, is of another one.
+// Makes links of the places in the texts below a node; a path from the root, or out of the folder
+// of the project, is of another one.
 function link_sources(node) {
   if (!RUN.source) return node;
   const walker = document.createTreeWalker(node, NodeFilter.SHOW_TEXT), texts = [];
