@@ -1,8 +1,8 @@
 """What all Python tests share: what each needs of the machine, and what follows if that is missing.
 
-A test that is marked `program`, `cargo`, `browser`, `firefox` or `postgres` needs the built
-program, cargo, Chromium, Firefox, or a server of PostgreSQL with psycopg. Where it is missing the
-test is skipped; with REZOVAMY_TEST_ALL=1, as in the gate, it fails.
+A test that is marked `program`, `cargo`, `browser`, `firefox`, `tmux` or `postgres` needs the built
+program, cargo, Chromium, Firefox, tmux, or a server of PostgreSQL with psycopg. Where it is missing
+the test is skipped; with REZOVAMY_TEST_ALL=1, as in the gate, it fails.
 """
 
 from __future__ import annotations
@@ -72,6 +72,8 @@ def pytest_runtest_setup(item: pytest.Item) -> None:
         leave_out("Chromium")
     if item.get_closest_marker("firefox") and not any(map(shutil.which, FIREFOX)):
         leave_out("Firefox")
+    if item.get_closest_marker("tmux") and shutil.which("tmux") is None:
+        leave_out("tmux")
 
 
 @pytest.fixture(scope="session")

@@ -26,6 +26,7 @@ need_command firefox-esr firefox-esr
 need_command groff groff
 need_command node nodejs
 need_command shellcheck shellcheck
+need_command tmux tmux
 need_command unshare util-linux
 need_command xmllint libxml2-utils
 [ -n "$(ls /usr/lib/postgresql/*/bin/initdb 2>/dev/null)" ] || need_command initdb postgresql

@@ -62,6 +62,7 @@ class Page:
         metrics = member(self.browser.ask("Performance.getMetrics"), "metrics")
         assert isinstance(metrics, list)
         [found] = [one["value"] for one in metrics if one["name"] == "TaskDuration"]
+        self.browser.ask("Performance.disable")
         return float(found)
 
     def texts(self, code: str) -> list[str]:

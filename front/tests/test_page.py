@@ -122,7 +122,8 @@ def test_the_run_is_told(page: Page) -> None:
     marks = [tuple(pair) for pair in page.value["marks"]]
     assert marks == [(9_000_000, "cancelled: interrupt")]
     cancelled = "The run was cancelled: interrupt."
-    assert page.value["notes"] == [cancelled, "2 tests more were announced, and never started."]
+    assert page.value["notes"] == [cancelled]
+    assert page.value["unnamed"] == 2
 
 
 def test_failures_stand_by_their_causes(page: Page) -> None:
@@ -280,8 +281,8 @@ def test_all_parts_are_used() -> None:
 # The title.
 
 
-def title_of(tests: list[PageTest], profile: str = "ci") -> str:
-    """Return the title of a page with these tests."""
+def title_of(tests: list[PageTest], profile: str = "ci", unnamed: int = 0) -> str:
+    """Return the title of a page with these tests, and with some that never started."""
     run: PageData = {
         "run": {
             "id": "",
@@ -299,6 +300,7 @@ def title_of(tests: list[PageTest], profile: str = "ci") -> str:
         "binaries": [],
         "commands": [],
         "tests": tests,
+        "unnamed": unnamed,
         "causes": [],
         "outputs": [],
         "notes": [],
@@ -334,6 +336,7 @@ def test_the_profile_in_the_title_is_short_and_harmless() -> None:
     [
         (("unfinished", "passed", "failed"), "pass", False, "1 failed"),
         (("unfinished", "passed", "flaky"), "pass", False, "1 unfinished"),
+        (("not-started", "not-started", "passed"), "pass", False, "2 never started"),
         (("script", "skipped"), "fail", True, "1 setup failed"),
         (("script",), "unfinished", False, "1 unfinished"),
         (("script", "passed", "flaky"), "pass", False, "2 passed"),

@@ -10,7 +10,7 @@ import pytest
 from rezovamy_runs.page import document
 
 WORDS = ["ink", "muted", "faint", "accent", "failed", "flaky", "passed", "skipped"]
-WORDS += ["unfinished", "script"]
+WORDS += ["unfinished", "not-started", "script"]
 OUTPUT_COLOURS = ["red", "green", "yellow", "blue", "magenta", "cyan", "gray"]
 SLICES = ["passed", "script", "flaky", "retried", "unfinished", "failed"]
 LABELS = {

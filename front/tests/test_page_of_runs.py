@@ -4,13 +4,17 @@ from __future__ import annotations
 
 import json
 import pathlib
+import random
 import re
 
 import pytest
 
 from rezovamy_runs.page_of_runs import document
 from rezovamy_runs.page_of_runs.data import HistoryData, Messages, by_commit, milliseconds
-from rezovamy_runs.history.joining import JoinedRun
+from rezovamy_runs.page_of_runs.data import page_data
+from rezovamy_runs.history.joining import JoinedRun, Told, joined_runs
+from rezovamy_runs.history.outcomes import Outcome
+from rezovamy_runs.model import TestName, Verdict
 from rezovamy_runs.store.notes import Part, RunNotes, Shard
 from tests.front_end import FrontEnd
 from tests.histories import Folder, id_of, row
@@ -84,6 +88,25 @@ def test_messages_have_a_limit() -> None:
 )
 def test_three_digits_of_a_time_count(seconds: float, expected: float) -> None:
     assert milliseconds(seconds) == expected
+
+
+def test_two_hundred_runs_of_two_thousand_tests_have_a_small_page() -> None:
+    chance = random.Random(7)
+    tests = [TestName(f"shop::part_{at % 20}", f"area_{at % 90}::does_{at}") for at in range(2000)]
+    columns = joined_runs(row(number) for number in range(200))
+
+    def told(run: JoinedRun) -> list[Told]:
+        """Return what a run says: each test takes its time, and each hundredth fails."""
+        found = []
+        for test in tests:
+            verdict = Verdict.FAIL if chance.random() < 0.01 else Verdict.PASS
+            outcome = Outcome(verdict, chance.lognormvariate(-3, 1.5), 1, f"no answer {test.test}")
+            found.append(Told(run.rows[0].run, test, outcome))
+        return found
+
+    text = document.page_html(page_data("shop", columns, told, [], {}))
+    assert len(text.encode()) < 5_000_000
+    assert text.count('"marks"') == 2000
 
 
 def test_columns_are_in_the_order_of_commits() -> None:

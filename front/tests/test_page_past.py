@@ -9,7 +9,7 @@ import re
 import pytest
 
 from rezovamy_runs.page.past import Past, PagePast, PastRun, PastTest, digits_of, page_past
-from rezovamy_runs.model import Test, TestName, Verdict
+from rezovamy_runs.model import TestName
 from rezovamy_runs.store.notes import RunNotes
 from tests.front_end import FrontEnd
 from tests.histories import Folder, id_of
@@ -43,7 +43,7 @@ def test_a_time_takes_two_digits(seconds: float | None, digits: str) -> None:
 
 def test_marks_that_tests_share_are_there_once() -> None:
     names = ["one", "two", "three", "new"]
-    tests = [Test("alpha", name, Verdict.PASS) for name in names]
+    tests = [TestName("alpha", name) for name in names]
     known = {
         TestName("alpha", name): PastTest(marks, (1, None), kind)
         for name, marks, kind in [

@@ -84,8 +84,8 @@ def run_of(*tests: Test, counts: Counts = Counts(), status: str = "completed") -
 
 
 def lines(*tests: Test, with_passed: bool = False, printer: Printer = PLAIN) -> list[str]:
-    """What is printed of tests."""
-    return list(printer.tests(tests, with_passed))
+    """What is printed of tests: of all, or of those that failed."""
+    return list(printer.tests(tests) if with_passed else printer.failures(tests))
 
 
 # Tests.

@@ -12,6 +12,8 @@ import sys
 from collections.abc import Callable, Iterable
 from typing import BinaryIO, TextIO, TypeVar
 
+from rezovamy_runs import terminal
+
 Made = TypeVar("Made")
 Options = TypeVar("Options")
 
@@ -109,8 +111,8 @@ def print_out(text: str) -> None:
 
 
 def print_lines(lines: Iterable[str]) -> None:
-    """Print lines on standard output."""
-    print_out("".join(f"{line}\n" for line in lines))
+    """Print lines on standard output, folded if it is a narrow terminal."""
+    print_out(terminal.fitted("".join(f"{line}\n" for line in lines), sys.stdout))
 
 
 def say(line: str) -> None:
@@ -118,7 +120,7 @@ def say(line: str) -> None:
     if sys.stderr is None:
         return
     try:
-        print(line, file=sys.stderr, flush=True)
+        print(terminal.fitted(line, sys.stderr), file=sys.stderr, flush=True)
     except OSError:
         # What is left of it would fail again at the end, and change the status.
         discard(sys.stderr)

@@ -1,9 +1,13 @@
-"""What a terminal takes: colours, and as much of a line as it has columns."""
+"""What a terminal takes: colours, and as much of a line as it has columns.
+
+On a narrow one, lines are broken between words.
+"""
 
 from __future__ import annotations
 
 import dataclasses
 import os
+import re
 import unicodedata
 from typing import Literal, TextIO
 
@@ -17,6 +21,11 @@ CODES: dict[Colour, str] = {
     "dim": "2",
 }
 USUAL_WIDTH = 80
+# A terminal with fewer columns breaks most lines, and would break them within words.
+LEAST_WIDTH = 60
+COLOUR_CODE = re.compile("\x1b\\[[0-9;]*m")
+# A word with the blanks before it.
+WORD = re.compile(r"\s*\S+")
 
 
 def columns(text: str) -> int:
@@ -39,6 +48,35 @@ def cut(line: str, width: int) -> str:
         kept += 1
         room -= columns(line[kept])
     return f"{line[:kept]} .."[: max(0, width - 1)]
+
+
+def folded(text: str, width: int) -> str:
+    """Return a text whose lines are broken between words, so that so many columns hold them.
+
+    What is left of a line stands further to the right. A word with more columns stays whole.
+    """
+    return "\n".join(part for line in text.split("\n") for part in folded_line(line, width))
+
+
+def folded_line(line: str, width: int) -> list[str]:
+    """Return the lines into which a line is broken."""
+    indent = " " * min(len(line) - len(line.lstrip(" ")) + 2, width // 3)
+    lines, last = [], ""
+    for word in WORD.findall(line):
+        if last.strip() and columns(COLOUR_CODE.sub("", last + word)) > width:
+            lines.append(last)
+            last = indent + word.lstrip()
+        else:
+            last += word
+    return [*lines, last]
+
+
+def fitted(text: str, stream: TextIO | None) -> str:
+    """Return a text as a stream shows it best: folded on a narrow terminal, or else as it is."""
+    if stream is None or not is_terminal(stream):
+        return text
+    width = width_of(stream)
+    return folded(text, width) if width < LEAST_WIDTH else text
 
 
 def width_of(stream: TextIO) -> int:

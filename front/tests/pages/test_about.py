@@ -63,6 +63,8 @@ def test_a_place_in_an_output_leads_to_its_source(page: Page) -> None:
         ("/rustc/abc/library/core.rs:1:2", []),
         ("~/.cargo/x.rs:3", []),
         ("(a/b-c.rs:10)", ["a/b-c.rs:10"]),
+        ("at ../other/x.rs:3", []),
+        ("at ./a/x.rs:3", ["./a/x.rs:3"]),
         ("12:30:15 https://x.example:80", []),
     ],
 )
@@ -72,6 +74,12 @@ def test_only_places_of_the_project_are_links(page: Page, printed: str, links: l
     assert page.content("pre") == printed
     found = "[...document.querySelectorAll('pre a')].map((one) => one.innerText)"
     assert page.texts(found) == links
+
+
+def test_a_place_in_a_backtrace_leads_to_its_source(page: Page) -> None:
+    ended = status(0, 1, exit_code(), stdout=b"             at ./tests/wrong.rs:7:5\n")
+    open_with_notes(page, session_of([started(0, "t"), finished(1, "t", ended)]), "#alpha/t")
+    assert page.member("pre a", "href") == f"https://code.example/{COMMIT}/tests/wrong.rs#L7"
 
 
 def test_without_a_pattern_no_place_is_a_link(page: Page) -> None:

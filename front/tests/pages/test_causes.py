@@ -4,9 +4,12 @@ from __future__ import annotations
 
 import pytest
 
+from tests import made
 from tests.made import (
     exit_code,
     finished,
+    run_finished,
+    run_started,
     script_events,
     session_of,
     skipped,
@@ -79,8 +82,54 @@ def test_all_numbers_count_the_same_tests(page: Page) -> None:
     assert page.texts(states) == ["8", "1", "1", "1"]
     items = "document.querySelectorAll('.cause .item, section > .items .why').length"
     assert page.number(items) == 9
-    row = "[...document.querySelectorAll('tbody td')].slice(1, 5).map((one) => one.innerText)"
+    cells = "[...document.querySelectorAll('.binaries td')]"
+    row = f"{cells}.slice(1, 5).map((one) => one.innerText)"
     assert page.texts(row) == ["8", "1", "1", "1"]
+
+
+def with_waiting(named: list[str], total: int) -> str:
+    """Return a run of a test that passes, with so many that never started, some of them named."""
+    missing = {"not-seen": [made.test_of(name) for name in named], "total-not-seen": total}
+    return session_of(
+        [
+            run_started(),
+            started(0, "passes", 0),
+            finished(1, "passes", status(0, 1)),
+            run_finished(1, 1, outstanding_not_seen=missing),
+        ]
+    )
+
+
+@pytest.mark.parametrize(
+    ("named", "total", "found", "items"),
+    [
+        (["b", "c"], 2, "All 3 shown", ["b alpha", "c alpha"]),
+        (["b"], 3, "2 of 4 shown; 2 have no name", ["b alpha", "2 more without a name"]),
+        ([], 1, "1 of 2 shown; 1 has no name", ["1 without a name"]),
+    ],
+)
+def test_tests_that_never_started_are_counted(
+    page: Page, named: list[str], total: int, found: str, items: list[str]
+) -> None:
+    page.open(with_waiting(named, total))
+    assert page.inner("#headline") == f"{total} never started, 1 passed"
+    assert page.inner("#facts span") == f"{total + 1} tests"
+    assert page.inner("#found") == found
+    states = "[...document.querySelectorAll('#states b')].map((one) => one.innerText)"
+    assert page.texts(states) == [str(total), "1"]
+    assert page.inner("h3") == f"{total} never started"
+    told = "#details > section .item .name, #details > section > .more"
+    shown = f"[...document.querySelectorAll('{told}')].map((one) => one.innerText)"
+    assert page.texts(shown) == items
+    cells = "[...document.querySelectorAll('.binaries td:nth-child(2)')]"
+    assert sum(map(int, page.texts(f"{cells}.map((cell) => cell.innerText)"))) == total
+    assert page.rows() == [*named, "passes"]
+
+
+def test_the_page_says_how_tests_count(page: Page) -> None:
+    page.open(with_causes())
+    said = "Each number counts a test once, by how it ended at last. Setup scripts aren't tests."
+    assert said in page.details()
 
 
 def test_a_setup_script_that_failed_is_counted_above_and_below(page: Page) -> None:

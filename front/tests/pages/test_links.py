@@ -33,6 +33,11 @@ LINKS = [
     ("#alpha/flaky?states=passed", HEADING, "✕\nflaky"),
     ("#?sort=slowest", "document.getElementById('sort').value", "slowest"),
     ("#?sort=wrong", "document.getElementById('sort').value", "failures"),
+    (
+        "#?from=1&to=3",
+        "document.getElementById('selected-sum').textContent",
+        "1.0s to 3.0s, 2.0s: 2 tests ran, 1 failed; 3.0s of tests, 75% of 2 slots",
+    ),
     ("#tests", HEADING, ""),
     ("#alpha/%E0", HEADING, ""),
 ]

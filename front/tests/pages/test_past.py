@@ -33,7 +33,6 @@ def open_with_past(page: Page, session: str, past: Past, fragment: str = "") -> 
     path.write_text(document.page_of(page.folder / "run.bundle", past=past))
     page.address = path.resolve().as_uri()
     page.browser.events.clear()
-    page.count_processor_time()
     page.browser.open(page.address + fragment, 1400, 900, False)
     page.browser.wait_until(READY)
 
@@ -133,7 +132,8 @@ def test_many_tests_with_twenty_runs_before(page: Page) -> None:
         else PastTest("." * 20, times)
         for number in range(MANY)
     }
+    page.count_processor_time()
     open_with_past(page, many_tests(), Past(runs, known), "#alpha/test_1999")
     assert pathlib.Path(page.folder / "page.html").stat().st_size < 2_500_000
     assert page.number("document.querySelectorAll('.past li').length") == 20
-    assert page.processor_time() < 1
+    assert 0 < page.processor_time() < 1

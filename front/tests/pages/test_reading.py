@@ -64,6 +64,8 @@ def test_a_screen_reader_meets_the_headings_in_their_order(page: Page) -> None:
         "2 failed",
         "Slowest tests",
         "Binaries",
+        "3 slots",
+        "Critical path",
         "This run",
     ]
 

@@ -34,6 +34,7 @@ class Options:
 
     run: str
     page: bool
+    opens: bool
     junit: bool
     shared: bool
     rest: list[str]
@@ -42,7 +43,8 @@ class Options:
 def add_options(parser: argparse.ArgumentParser) -> None:
     """Take a run, and what else is written."""
     parser.usage = (
-        "rezovamy-runs again [--page] [--junit] [OPTIONS OF A RUN] [RUN] [-- WORDS OF CARGO TEST]"
+        "rezovamy-runs again [--page] [--open] [--junit] [OPTIONS OF A RUN] [RUN] "
+        "[-- WORDS OF CARGO TEST]"
     )
     add_run(parser)
     test_command.add_outputs(parser)
@@ -66,7 +68,11 @@ def run(words: argparse.Namespace) -> int:
         return nothing_to_run(plan, before, bool(nameless))
     notes = note_options.notes_again(words, runs, before)
     outputs = test_command.Outputs(
-        runs, options.page, options.junit, notes, quarantine=quarantine.of(runs)
+        runs,
+        options.page or options.opens,
+        options.junit,
+        notes,
+        quarantine=quarantine.of(runs),
     )
     plan.is_same_build = missing_tests.is_same_build(first, options.rest)
     given = ["--", *options.rest] if options.rest else []
@@ -82,7 +88,8 @@ def run(words: argparse.Namespace) -> int:
         run_options.refuse_with_shared(words)
     of_run = dataclasses.replace(run_options.options_of_run(words), quarantine=outputs.quarantine)
     process_run = ProcessRun(calls, of_run, before.profile, cli_args, plan)
-    return test_command.guarded_status(lambda: outputs.run(process_run, judge))
+    status = test_command.guarded_status(lambda: outputs.run(process_run, judge))
+    return test_command.opened_page(options.opens, runs, process_run.run_id, status)
 
 
 def say_each(lines: Iterable[str]) -> None:

@@ -9,7 +9,7 @@ from collections.abc import Iterable
 from rezovamy_runs import formatting
 from rezovamy_runs.answers import WRONG_WORDS
 from rezovamy_runs.command_line import print_out
-from rezovamy_runs.commands import history_options
+from rezovamy_runs.commands import history_options, page_opening
 from rezovamy_runs.commands.history_options import Table
 from rezovamy_runs.commands.page import STANDARD_OUTPUT, print_page, written
 from rezovamy_runs.faults.fault import Fault
@@ -47,12 +47,15 @@ def add_options(parser: argparse.ArgumentParser) -> None:
         "write the tests and runs as one HTML page to PATH, - for standard output "
         f"({PAGE_FILE} beside the runs); TEST chooses tests",
     )
+    page_opening.add_option(parser, "with --page, open the page in a browser too")
 
 
 def run(words: argparse.Namespace) -> int:
     """Print a line of characters for each test, and what they say; or write the page."""
     if words.page is not None:
         return write_page(words)
+    if words.opens:
+        raise Fault("--open is for a page: give --page too", WRONG_WORDS)
     if words.test is None:
         raise Fault("name a TEST, or give --page for a page of all tests", WRONG_WORDS)
     runs = run_folder.here()
@@ -80,6 +83,8 @@ def write_page(words: argparse.Namespace) -> int:
     runs = run_folder.here()
     target = pathlib.Path(words.page) if words.page else runs.folder / PAGE_FILE
     is_printed = words.page == STANDARD_OUTPUT
+    if words.opens and is_printed:
+        page_opening.refuse_for_output()
 
     def question(database: Database, found: list[JoinedRun]) -> HistoryData:
         """Ask for what the page knows."""
@@ -94,6 +99,8 @@ def write_page(words: argparse.Namespace) -> int:
         print_page(text)
     else:
         print_out(f"{written(text, target, '--page')}\n")
+        if words.opens:
+            page_opening.open_page(target)
     return 0
 
 

@@ -10,6 +10,7 @@ from collections.abc import Sequence
 from rezovamy_runs.command_line import matching, say
 from rezovamy_runs.faults.fault import Fault
 from rezovamy_runs.model import Summary
+from rezovamy_runs.page.about import SOURCE
 from rezovamy_runs.runner import run_facts
 from rezovamy_runs.runner.run_facts import Asked
 from rezovamy_runs.store.notes import RunNotes, Shard
@@ -66,7 +67,7 @@ def notes(words: argparse.Namespace, runs: Store, splits: bool) -> RunNotes:
     """
     asked = Asked(
         command=tuple(without_surrogates(word) for word in words.command_line),
-        notes=dict(words.note),
+        notes=noted(dict(words.note), runs),
         group=words.group,
         shard=getattr(words, "shard", None),
     )
@@ -79,6 +80,12 @@ def notes(words: argparse.Namespace, runs: Store, splits: bool) -> RunNotes:
         said = f"only shard {made.shard} of the tests runs, as {machine.ci.job.service} asks"
         say(f"rezovamy-runs: {said}; `--shard 1/1` runs all")
     return made
+
+
+def noted(given: dict[str, str], runs: Store) -> dict[str, str]:
+    """Return the notes that are given, and where the sources are if the workspace says it."""
+    source = runs.source()
+    return {SOURCE: source, **given} if source else given
 
 
 def notes_again(words: argparse.Namespace, runs: Store, before: Summary) -> RunNotes:

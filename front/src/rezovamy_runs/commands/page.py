@@ -7,9 +7,10 @@ import dataclasses
 import pathlib
 import sys
 
+from rezovamy_runs import quarantine
 from rezovamy_runs.bundles import bundle_file
 from rezovamy_runs.command_line import add_run, options_of, print_out, whole
-from rezovamy_runs.commands import page_past
+from rezovamy_runs.commands import page_opening, page_past
 from rezovamy_runs.faults.fault import Fault
 from rezovamy_runs.page import document
 from rezovamy_runs.page.data import MOST_OUTPUT
@@ -29,6 +30,7 @@ class Options:
     to: str | None
     most_output: int
     source: str | None
+    opens: bool
 
 
 def add_options(parser: argparse.ArgumentParser) -> None:
@@ -54,11 +56,14 @@ def add_options(parser: argparse.ArgumentParser) -> None:
         help="where the sources are, as https://host/project/blob/{commit}/{file}#L{line} "
         "(the run's note `source`)",
     )
+    page_opening.add_option(parser, "open the page in a browser too")
 
 
 def run(words: argparse.Namespace) -> int:
     """Write the page, and print where it is."""
     options = options_of(Options, words)
+    if options.opens and options.to == STANDARD_OUTPUT:
+        page_opening.refuse_for_output()
     runs = run_folder.here()
     chosen = runs.find_all(options.run)
     text, own = page_of(runs, chosen, options)
@@ -67,6 +72,8 @@ def run(words: argparse.Namespace) -> int:
     else:
         target = pathlib.Path(options.to) if options.to else own
         print_out(f"{written(text, target)}\n")
+        if options.opens:
+            page_opening.open_page(target)
     return 0
 
 
@@ -76,15 +83,19 @@ def page_of(runs: Store, chosen: Chosen, options: Options) -> tuple[str, pathlib
     if chosen.group is None:
         return page_text(runs, first, options.most_output, options.source), beside(first)
     name = f"group-{location.NOT_PLAIN.sub('_', chosen.group)}.html"
-    text = document.page_of_group(chosen.group, chosen.paths, options.most_output, options.source)
+    excused = quarantine.of(runs)
+    text = document.page_of_group(
+        chosen.group, chosen.paths, options.most_output, options.source, excused
+    )
     return text, first.parent / name
 
 
 def page_text(
     runs: Store, path: pathlib.Path, most_output: int = MOST_OUTPUT, source: str | None = None
 ) -> str:
-    """Return the page of the bundle at a path, with what the history of the runs says."""
-    return document.page_of(path, most_output, source, page_past.past_of(runs, path))
+    """Return the page of the bundle at a path, with what history and quarantine say."""
+    past, excused = page_past.past_of(runs, path), quarantine.of(runs)
+    return document.page_of(path, most_output, source, past, excused)
 
 
 def print_page(text: str) -> None:

@@ -59,13 +59,13 @@ def run(words: argparse.Namespace) -> int:
         tests = named(found, test)
         if not tests:
             raise not_there(runs, found, test)
-        print_lines(printer.tests(tests, True))
+        print_lines(printer.tests(tests))
         return 0
     print_lines(
         [
             printer.head(found, runs.shortest(found.id)),
             *printer.scripts(found.scripts, options.all),
-            *printer.tests(found.tests, options.all),
+            *(printer.tests(found.tests) if options.all else printer.failures(found.tests)),
             *printer.never_started(found),
             printer.end(found),
         ]

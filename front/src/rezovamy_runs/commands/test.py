@@ -17,10 +17,17 @@ from rezovamy_runs.bundles import bundle
 from rezovamy_runs.collecting import cargo_call, chosen_tests
 from rezovamy_runs.collecting.collect import BuildFailed
 from rezovamy_runs.collecting.cargo_line import manifest_of
-from rezovamy_runs.command_line import input_stream, options_of, print_out, say, whole
+from rezovamy_runs.command_line import (
+    input_stream,
+    options_of,
+    print_lines,
+    print_out,
+    say,
+    whole,
+)
 from rezovamy_runs.commands import junit as junit_command
 from rezovamy_runs.commands import page as page_command
-from rezovamy_runs.commands import note_options, run_options
+from rezovamy_runs.commands import note_options, page_opening, run_options
 from rezovamy_runs.faults.fault import Fault
 from rezovamy_runs.model import Run
 from rezovamy_runs.processes import guard
@@ -53,8 +60,7 @@ class Options:
     source: str | None
     status: int | None
     profile: str
-    page: bool
-    junit: bool
+    opens: bool
     shared: bool
     rest: list[str]
 
@@ -62,9 +68,10 @@ class Options:
 def add_options(parser: argparse.ArgumentParser) -> None:
     """Take how tests are run, or where lines come from that are there."""
     parser.usage = (
-        "rezovamy-runs test [--profile NAME] [--page] [--junit] [OPTIONS OF A RUN] "
+        "rezovamy-runs test [--profile NAME] [--page] [--open] [--junit] [OPTIONS OF A RUN] "
         "[-- WORDS OF CARGO TEST]\n"
-        "       rezovamy-runs test --from FILE|- [--status N] [--profile NAME] [--page] [--junit]"
+        "       rezovamy-runs test --from FILE|- [--status N] [--profile NAME] [--page] [--open] "
+        "[--junit]"
     )
     parser.add_argument(
         "--from",
@@ -96,6 +103,7 @@ def add_outputs(parser: argparse.ArgumentParser) -> None:
     parser.add_argument(
         "--page", action="store_true", help="write the run's page too, as `page` does"
     )
+    page_opening.add_option(parser, "write the page and open it in a browser")
     parser.add_argument(
         "--junit", action="store_true", help="write its JUnit XML too, as `junit` does"
     )
@@ -121,7 +129,9 @@ def run(words: argparse.Namespace) -> int:
         run_options.refuse_with_lines(words)
         outputs = outputs_of(words, runs, False)
         outputs.prepare()
-        return outputs.keep(read_lines(options, options.source))
+        session = read_lines(options, options.source)
+        status = outputs.keep(session)
+        return opened_page(options.opens, runs, session.run_id, status)
     if options.shared:
         run_options.refuse_with_shared(words)
         note_options.refuse_shard(words)
@@ -133,14 +143,23 @@ def run(words: argparse.Namespace) -> int:
         quarantine=outputs.quarantine,
     )
     process_run = ProcessRun([options.rest], of_run, options.profile, cli_args)
-    return guarded_status(lambda: outputs.run(process_run))
+    status = guarded_status(lambda: outputs.run(process_run))
+    return opened_page(options.opens, runs, process_run.run_id, status)
+
+
+def opened_page(opens: bool, runs: Store, run_id: str, status: int) -> int:
+    """Open the page of a run if that is wanted, and return the status that the run has."""
+    if opens:
+        page_opening.open_page(page_command.beside(runs.path_of(run_id)))
+    return status
 
 
 def outputs_of(words: argparse.Namespace, runs: Store, splits: bool) -> Outputs:
     """Return where the run goes; `splits` tells that a shard of its tests may be run."""
     notes = note_options.notes(words, runs, splits)
     excused, is_chosen = quarantine.of(runs), chosen_tests.chooses(words.rest)
-    return Outputs(runs, words.page, words.junit, notes, is_chosen, excused)
+    has_page = words.page or words.opens
+    return Outputs(runs, has_page, words.junit, notes, is_chosen, excused)
 
 
 def guarded_status(work: Callable[[], int]) -> int:
@@ -223,7 +242,7 @@ class Outputs:
             path = record()
             run = bundle.read_run(path)
             status = self.quarantine.status(run, status)
-            print_out(self._summary_of(run, path, has_told))
+            print_lines(self._summary_of(run, path, has_told))
             is_whole = not (self.is_chosen or self.notes.parent or self.notes.shard)
             for line in self.quarantine.remarks(run, is_whole):
                 say(f"rezovamy-runs: {formatting.name(line)}")
@@ -235,7 +254,7 @@ class Outputs:
             raise Fault(f"the tests failed, and besides: {said}", status) from error
         return status
 
-    def _summary_of(self, run: Run, path: pathlib.Path, has_told: bool) -> str:
+    def _summary_of(self, run: Run, path: pathlib.Path, has_told: bool) -> list[str]:
         """Return what is printed of a run that was recorded.
 
         If `has_told`, failures are only named.
@@ -243,14 +262,13 @@ class Outputs:
         paint = terminal.Paint(terminal.colours(sys.stdout))
         printer = Printer(paint, MOST_LINES, not has_told, self.quarantine)
         prefix = self.runs.prefixes().get(run.id, run.id)
-        lines = [
+        return [
             *printer.failures(run.tests),
             *printer.never_started(run),
             *printer.slowest(run),
             printer.end(run),
             f"recorded as {prefix} in {path}",
         ]
-        return "".join(f"{line}\n" for line in lines)
 
     def _write_more(self, path: pathlib.Path) -> None:
         """Write what else is asked for of a run that was recorded, and print where it is."""

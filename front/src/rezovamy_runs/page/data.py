@@ -13,14 +13,17 @@ from collections.abc import Sequence
 from typing import Literal, NotRequired, TypeAlias, TypedDict
 
 from rezovamy_runs import formatting
-from rezovamy_runs.model import Attempt, Run, Script, Status, Test, Verdict
+from rezovamy_runs.model import Attempt, Run, Script, Status, Test, TestName, Verdict
 from rezovamy_runs.page.about import PageCommand, PageFact, command_of, facts_of
 from rezovamy_runs.page.bands import PageBand
 from rezovamy_runs.page.causes import PageCause, cause_of, grouped
 from rezovamy_runs.page.past import PagePast, Past, page_past
+from rezovamy_runs.quarantine import NOTHING, Entry, Quarantine
 from rezovamy_runs.store.notes import RunNotes
 
-State: TypeAlias = Literal["failed", "unfinished", "flaky", "passed", "skipped", "script"]
+State: TypeAlias = Literal[
+    "failed", "unfinished", "not-started", "flaky", "passed", "skipped", "script"
+]
 
 
 class PageOutput(TypedDict):
@@ -61,6 +64,7 @@ class PageTest(TypedDict):
     reason: NotRequired[str]
     stress: NotRequired[int]
     flaky_fails: NotRequired[bool]
+    quarantine: NotRequired[str]
     attempts: NotRequired[list[PageAttempt]]
 
 
@@ -79,7 +83,10 @@ class PageRun(TypedDict):
 
 
 class PageData(TypedDict):
-    """All that a page knows; `marks` are instants with what is written at them."""
+    """All that a page knows; `marks` are instants with what is written at them.
+
+    `unnamed` is how many tests were announced, never started and have no name.
+    """
 
     run: PageRun
     facts: list[PageFact]
@@ -87,6 +94,7 @@ class PageData(TypedDict):
     binaries: list[str]
     commands: list[PageCommand | None]
     tests: list[PageTest]
+    unnamed: int
     causes: list[PageCause]
     outputs: list[PageOutput]
     notes: list[str]
@@ -292,19 +300,18 @@ def page_script(script: Script, begin: int, outputs: Outputs) -> PageTest:
     return made
 
 
+def page_waiting(key: TestName, binaries: Binaries) -> PageTest:
+    """Return a test that never started."""
+    return {"name": key.test, "state": "not-started", "binary": binaries.place(key.binary)}
+
+
 def notes_of(run: Run, outputs: Outputs) -> list[str]:
     """Return what a reader has to know before all else."""
     notes = []
-    unnamed = run.counts.unseen - sum(test.verdict is Verdict.UNFINISHED for test in run.tests)
     if run.status is Status.INCOMPLETE:
         notes.append("The run was broken off, or the recording of it was: it has no end.")
     if run.cancelled_for:
         notes.append(f"The run was cancelled: {reason_text(run.cancelled_for)}.")
-    if unnamed > 0:
-        were = "was" if unnamed == 1 else "were"
-        notes.append(
-            f"{formatting.count(unnamed, 'test')} more {were} announced, and never started."
-        )
     if outputs.left_out:
         left_out = formatting.count(outputs.left_out, "different output")
         have = "has" if outputs.left_out == 1 else "have"
@@ -348,28 +355,54 @@ def causes_of(run: Run) -> list[PageCause]:
     return grouped(scripts + tests)
 
 
+def quarantined(
+    tests: Sequence[PageTest], names: Sequence[TestName], excused: Quarantine
+) -> list[PageTest]:
+    """Return tests with these names; those in quarantine say until when and why."""
+    found = []
+    for test, name in zip(tests, names, strict=True):
+        entry = excused.entry_of(name)
+        found.append({**test, "quarantine": quarantine_text(entry)} if entry else test)
+    return found
+
+
+def quarantine_text(entry: Entry) -> str:
+    """Return what is said of a test in quarantine."""
+    until = f" until {entry.until}" if entry.until else ""
+    return f"in quarantine{until}{f': {entry.reason}' if entry.reason else ''}"
+
+
+def names_of(run: Run) -> list[TestName]:
+    """Return the names of all tests of a run, in the order in which its page has them."""
+    return [*(test.key for test in run.tests), *run.never_started]
+
+
 def page_data(
     run: Run,
     outputs: Outputs,
     notes: RunNotes | None = None,
     source: str | None = None,
     past: Past | None = None,
+    excused: Quarantine = NOTHING,
 ) -> PageData:
     """Return all that a page knows of a run.
 
-    `source` is the pattern of links to its sources, and `past` how its tests ended before.
+    `source` is the pattern of links to its sources, `past` how its tests ended before, and
+    `excused` says which are in quarantine.
     """
     binaries = Binaries()
     begin, end = run.extent
     scripts = [page_script(script, begin, outputs) for script in run.scripts]
-    tests = scripts + page_tests(run.tests, begin, outputs, binaries)
+    ran = page_tests(run.tests, begin, outputs, binaries)
+    waiting = [page_waiting(key, binaries) for key in run.never_started]
     return {
         "run": page_run(run),
         "facts": facts_of(notes),
         "source": source,
         "binaries": list(binaries.places),
         "commands": [command_of(binary) for binary in binaries.places],
-        "tests": tests,
+        "tests": [*scripts, *quarantined([*ran, *waiting], names_of(run), excused)],
+        "unnamed": run.unnamed,
         "causes": causes_of(run),
         "outputs": outputs.kept,
         "notes": notes_of(run, outputs),
@@ -379,5 +412,5 @@ def page_data(
         ],
         "end": end - begin,
         "bands": [],
-        "past": page_past(past, run.tests) if past else None,
+        "past": page_past(past, names_of(run)) if past else None,
     }

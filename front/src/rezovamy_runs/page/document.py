@@ -17,6 +17,7 @@ from rezovamy_runs.page.about import group_notes, source_pattern
 from rezovamy_runs.page.bands import band_name, banded
 from rezovamy_runs.page.data import MOST_OUTPUT, Outputs, PageData, page_data
 from rezovamy_runs.page.past import Past
+from rezovamy_runs.quarantine import NOTHING, Quarantine
 from rezovamy_runs.store import groups
 from rezovamy_runs.store import notes as run_notes
 
@@ -37,6 +38,7 @@ SCRIPTS = (
     "timeline",
     "drawing",
     "selection",
+    "slots",
     "pointing",
     "address",
     "past",
@@ -103,7 +105,7 @@ def content_policy(script: str, style: str) -> str:
 def page_title(value: PageData) -> str:
     """Return the name of the page's window.
 
-    It says how many tests failed or never ended, if any, or passed.
+    It says how many tests failed, never ended or never started, if any, or passed.
     """
     states = [test["state"] for test in value["tests"]]
     runs_of_scripts = [
@@ -117,6 +119,7 @@ def page_title(value: PageData) -> str:
         "failed": states.count("failed"),
         "setup failed": sum("bad" in attempt for attempt in runs_of_scripts),
         "unfinished": states.count("unfinished") + unfinished,
+        "never started": states.count("not-started") + value["unnamed"],
     }
     passed = states.count("passed") + states.count("flaky")
     told = next((f"{count} {word}" for word, count in counts.items() if count), f"{passed} passed")
@@ -155,15 +158,17 @@ def page_of(
     most_output: int = MOST_OUTPUT,
     source: str | None = None,
     past: Past | None = None,
+    excused: Quarantine = NOTHING,
 ) -> str:
     """Return the page of the bundle at a path, with what its notes say.
 
-    `source` is the pattern of links to the sources of its tests, `past` how these ended before.
+    `source` is the pattern of links to the sources of its tests, `past` how these ended before, and
+    `excused` says which are in quarantine.
     """
     notes = run_notes.read(run_notes.path_beside(path))
     pattern = source_pattern(source, notes)
     run = bundle.read_run(path)
-    return page_html(page_data(run, Outputs(most_output), notes, pattern, past))
+    return page_html(page_data(run, Outputs(most_output), notes, pattern, past, excused))
 
 
 def page_of_group(
@@ -171,6 +176,7 @@ def page_of_group(
     paths: Sequence[pathlib.Path],
     most_output: int = MOST_OUTPUT,
     source: str | None = None,
+    excused: Quarantine = NOTHING,
 ) -> str:
     """Return the page of the runs of a group as one, each in a band of the timeline."""
     runs = sorted(map(bundle.read_run, paths), key=lambda run: (run.started, run.id))
@@ -179,7 +185,7 @@ def page_of_group(
     known = group_notes([one for one in notes if one])
     pattern = source_pattern(source, known)
     whole = groups.one_run(name, moved)
-    value = page_data(whole, Outputs(most_output), known, pattern)
+    value = page_data(whole, Outputs(most_output), known, pattern, excused=excused)
     value["bands"] = bands
     doubts = (f"{line[0].upper()}{line[1:]}." for line in groups.doubts(name, runs, notes))
     value["notes"] = [*doubts, *value["notes"]]

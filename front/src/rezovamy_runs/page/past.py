@@ -12,7 +12,7 @@ from collections.abc import Iterable, Mapping
 from typing import NotRequired, TypedDict
 
 from rezovamy_runs import formatting
-from rezovamy_runs.model import Test, TestName
+from rezovamy_runs.model import TestName
 
 SHORT_COMMIT = 12
 # The digits of a time: how many steps it is above a microsecond, of which 340 make ten times it.
@@ -93,7 +93,7 @@ def page_past_run(run: PastRun) -> PagePastRun:
     return made
 
 
-def page_past(past: Past, tests: Iterable[Test]) -> PagePast:
+def page_past(past: Past, tests: Iterable[TestName]) -> PagePast:
     """Return what the page has of the runs before, for its tests in their order."""
     absent = PastTest("-" * len(past.runs), (None,) * len(past.runs))
     found = [past.tests.get(history_name(test), absent) for test in tests]
@@ -107,6 +107,6 @@ def page_past(past: Past, tests: Iterable[Test]) -> PagePast:
     }
 
 
-def history_name(test: Test) -> TestName:
+def history_name(key: TestName) -> TestName:
     """Return what a test is called in the history."""
-    return TestName(formatting.name(test.binary), formatting.name(test.name))
+    return TestName(formatting.name(key.binary), formatting.name(key.test))

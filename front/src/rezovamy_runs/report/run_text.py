@@ -70,11 +70,10 @@ class Printer:
         started = formatting.moment(run.started)
         return f"{self.paint('bold', f'run {prefix}')} of {started}, profile {profile}{ran}"
 
-    def tests(self, tests: Iterable[Test], with_passed: bool) -> Iterator[str]:
-        """Return the tests in the order in which they ended, those that passed if wanted."""
+    def tests(self, tests: Iterable[Test]) -> Iterator[str]:
+        """Return all tests in the order in which they ended."""
         for test in sorted(tests, key=ended):
-            if with_passed or test.verdict in NOTEWORTHY:
-                yield from self.test(test, with_passed)
+            yield from self.test(test, True)
 
     def failures(self, tests: Iterable[Test]) -> Iterator[str]:
         """Return the tests that didn't simply pass, in the order of their names."""

@@ -30,11 +30,11 @@ class ProgressLine:
 
     def print_line(self, line: str) -> None:
         """Print a line, after which the line of progress comes again."""
-        self._write(formatting.harmless(line) + "\n")
+        self.print_lines([formatting.harmless(line)])
 
     def print_lines(self, lines: Iterable[str]) -> None:
         """Print lines whose texts are without harm already, and may have colours."""
-        self._write("".join(f"{line}\n" for line in lines))
+        self._write(terminal.fitted("".join(f"{line}\n" for line in lines), self.stream))
 
     def _write(self, text: str) -> None:
         """Print a text in place of the line of progress.
@@ -94,7 +94,7 @@ class Progress(ProgressLine):
                 self._reported.add(test)
                 taken = formatting.duration(test.last.taken / 1e9)
                 name = f"{formatting.name(test.binary_id)} {formatting.name(test.name)}"
-                self._write(f"{self.paint('red', 'FAIL')} [{taken}] {name}\n")
+                self.print_lines([f"{self.paint('red', 'FAIL')} [{taken}] {name}"])
 
     def finish(self) -> None:
         """Print what is left to say, and take the line of progress away."""

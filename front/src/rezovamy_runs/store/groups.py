@@ -31,9 +31,10 @@ def one_run(name: str, runs: Sequence[Run]) -> Run:
             found.setdefault((test.key, test.stress), []).append(test)
     tests = tuple(map(one_test, found.values()))
     seen = {test.key for test in tests}
-    unseen = sum(run.counts.unseen - counts_of(run.tests).unseen for run in runs)
+    waiting = dict.fromkeys(one for run in runs for one in run.never_started if one not in seen)
+    unnamed = sum(run.unnamed for run in runs)
     counts = counts_of(tests)
-    counts = dataclasses.replace(counts, unseen=counts.unseen + unseen)
+    counts = dataclasses.replace(counts, unseen=counts.unseen + len(waiting) + unnamed)
     summary = dataclasses.replace(one_summary(name, runs), counts=counts)
     return Run(
         **vars(summary),
@@ -41,7 +42,8 @@ def one_run(name: str, runs: Sequence[Run]) -> Run:
         tests=tests,
         scripts=tuple(script for run in runs for script in run.scripts),
         cancellations=tuple(one for run in runs for one in run.cancellations),
-        never_started=tuple(one for run in runs for one in run.never_started if one not in seen),
+        never_started=tuple(waiting),
+        unnamed=unnamed,
     )
 
 

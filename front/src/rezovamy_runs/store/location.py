@@ -10,6 +10,7 @@ import re
 
 from rezovamy_runs import cargo
 from rezovamy_runs.faults.fault import Fault
+from rezovamy_runs.json_values import Members
 
 # The folder of all runs in the state folder.
 STATE = "rezovamy"
@@ -29,10 +30,14 @@ WORKSPACE = re.compile(r"^\s*\[workspace", re.M)
 
 @dataclasses.dataclass(frozen=True)
 class Workspace:
-    """A workspace: the folder of its manifest, and its target directory."""
+    """A workspace: the folder of its manifest, and its target directory.
+
+    `source` is the pattern of links to its sources, if its manifest has one.
+    """
 
     root: pathlib.Path
     target: pathlib.Path
+    source: str | None = None
 
 
 def workspace(manifest: str | None = None) -> Workspace | None:
@@ -48,11 +53,22 @@ def of_cargo(manifest: str | None = None) -> Workspace | None:
     """Return a workspace as cargo says it, None if it can't be asked."""
     try:
         said = cargo.metadata(manifest)
-        return Workspace(
-            pathlib.Path(said.text("workspace_root")), pathlib.Path(said.text("target_directory"))
-        )
+        root, target = said.text("workspace_root"), said.text("target_directory")
+        return Workspace(pathlib.Path(root), pathlib.Path(target), source_of(said))
     except cargo.FAULTS:
         return None
+
+
+def source_of(said: Members) -> str | None:
+    """Return the `source` of the manifest's `[workspace.metadata.rezovamy]`, if it is a text.
+
+    The only package of a workspace may have it in `[package.metadata.rezovamy]`.
+    """
+    found = [said, *said.inner_list("packages")]
+    tables = [one.values.get("metadata") for one in (found if len(found) == 2 else found[:1])]
+    settings = [table.get("rezovamy") for table in tables if isinstance(table, dict)]
+    sources = [one.get("source") for one in settings if isinstance(one, dict)]
+    return next((one for one in sources if isinstance(one, str)), None)
 
 
 def by_manifests(folder: pathlib.Path) -> Workspace | None:

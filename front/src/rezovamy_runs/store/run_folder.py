@@ -63,6 +63,10 @@ class Store:
         """Return the folder of the workspace whose runs these are, None if it isn't known."""
         return None
 
+    def source(self) -> str | None:
+        """Return the pattern of links to the sources of the tests; it isn't known here."""
+        return None
+
     def junit_folder(self) -> pathlib.Path:
         """Return the folder for JUnit XML if none is named: beside that of the runs."""
         # In `.` and `..` no word names the folder, so that nothing stands before it.
@@ -414,6 +418,10 @@ class Here(Store):
     def workspace_root(self) -> pathlib.Path | None:
         """Return the folder of the workspace, None if there is none."""
         return self.workspace.root if self.workspace else None
+
+    def source(self) -> str | None:
+        """Return the pattern of links to sources that the workspace's manifest has, if any."""
+        return self.workspace.source if self.workspace else None
 
     @functools.cached_property
     def folder(self) -> pathlib.Path:

@@ -75,10 +75,12 @@ function time_of(test) {
   return is_known ? duration(test.seconds) : "";
 }
 
-// How many tests are in each state; scripts are no tests.
+// How many tests are in each state; scripts are no tests. A test counts once, however often it was
+// tried, and also if the run doesn't say its name.
 const COUNTS = Object.fromEntries(Object.keys(STATES).map((state) => [state, 0]));
 TESTS.forEach((test) => COUNTS[test.state]++);
-const TEST_COUNT = TESTS.length - COUNTS.script;
+COUNTS["not-started"] += RUN.unnamed;
+const TEST_COUNT = TESTS.length - COUNTS.script + RUN.unnamed;
 
 // What failed or never ended, in the order of the causes.
 const CAUSES = RUN.causes.map(({ title, tests, shared: is_shared }) => (

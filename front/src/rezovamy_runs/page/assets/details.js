@@ -155,7 +155,8 @@ function draw_test(test) {
   const head = element("div", "test-head", element("h2", "", state_mark(test.end), name), link);
   const facts = [
     test.place, STATES[test.end === "script" ? "passed" : test.end].word, time_of(test),
-    test.flaky_fails ? "passing at a later attempt counts as a failure" : "", test.command ?? "",
+    test.flaky_fails ? "passing at a later attempt counts as a failure" : "",
+    test.quarantine ?? "", test.command ?? "",
   ];
   const spans = facts.filter(Boolean).map((one) => element("span", "", safe_nodes(one)));
   const parts = [back_button(), head, element("p", "under", ...spans)];

@@ -132,6 +132,7 @@ function draw_attempt(context, attempt, top, least) {
     draw_slice(context, attempt.kind, begin, top + 3, wide - gap);
     if (wide > 30) labelled.push([begin, wide]);
   }
+  if (ON_PATH.has(attempt)) draw_path(context, attempt, top);
   if (attempt.slow_at) draw_slow(context, attempt, top);
   for (const place of labelled) draw_label(context, attempt, place, top);
 }
@@ -181,6 +182,15 @@ function fitted(context, text, room) {
   part = last.slice(0, guess);
   while (part && context.measureText(`${part}…`).width > room) part = part.slice(0, -1);
   return part.length > 1 ? `${part}…` : "";
+}
+
+// A line below what is on the critical path.
+function draw_path(context, { slices }, top) {
+  context.fillStyle = paint.accent;
+  for (const [from, to] of slices) {
+    const left = Math.max(gutter, x_at(from)), right = Math.min(width, x_at(to));
+    if (right >= left) context.fillRect(left, top + lane - 2, Math.max(1, right - left - 1), 2);
+  }
 }
 
 // Where the runner said that it is slow.

@@ -1,7 +1,8 @@
 // The top of the page: how the run ended, in a line, and whose it is.
 
 function draw_headline() {
-  const is_green = !COUNTS.failed && !COUNTS.unfinished && !FAILED_SCRIPTS.length;
+  const bad = COUNTS.failed + COUNTS.unfinished + COUNTS["not-started"] + FAILED_SCRIPTS.length;
+  const is_green = !bad;
   const parts = STATES_OF_TESTS.filter((state) => COUNTS[state]).map((state) => {
     const is_loud = state === "failed" || (state === "passed" && is_green);
     return [is_loud ? state : "rest", `${whole(COUNTS[state])} ${STATES[state].word}`];

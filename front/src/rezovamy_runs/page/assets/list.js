@@ -55,8 +55,9 @@ function say_found(count) {
 }
 
 function words_for_found(count) {
-  if (listed.length === TESTS.length) return `All ${whole(TEST_COUNT)} shown`;
-  if (listed.length) return `${whole(count)} of ${whole(TEST_COUNT)} shown`;
+  const nameless = RUN.unnamed ? `; ${plural(RUN.unnamed, "has", "have")} no name` : "";
+  if (listed.length === TESTS.length && !nameless) return `All ${whole(TEST_COUNT)} shown`;
+  if (listed.length) return `${whole(count)} of ${whole(TEST_COUNT)} shown${nameless}`;
   return "No test is found. Try fewer letters, or more states.";
 }
 

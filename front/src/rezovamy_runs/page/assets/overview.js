@@ -29,7 +29,8 @@ function item(test, { reason = "", bar = false } = {}) {
   const name = element("span", "name", safe_nodes(test.name), " ", place);
   titled(name, `${test.name} ${test.place}`);
   const tries = test.attempts.length > 1 ? `${test.attempts.length} attempts` : "";
-  const took = [tries, time_of(test)].filter(Boolean).join(", ");
+  const excused = test.quarantine ? "in quarantine" : "";
+  const took = [excused, tries, time_of(test)].filter(Boolean).join(", ");
   button.append(state_mark(test.end), name, element("span", "took", took));
   if (reason) button.append(element("span", "why", safe_nodes(reason)));
   if (bar) {
@@ -93,6 +94,17 @@ function all_failures() {
   ];
 }
 
+// Those that the run doesn't name are counted, and have no line of their own.
+function never_started() {
+  const count = COUNTS["not-started"];
+  if (!count) return "";
+  const named = TESTS.filter((test) => test.state === "not-started");
+  const told = `${whole(RUN.unnamed)} ${named.length ? "more " : ""}without a name`;
+  return element("section", "", element("h3", "", `${whole(count)} never started`),
+    named.length ? items_of(named, () => ({})) : "",
+    RUN.unnamed ? element("p", "more", told) : "");
+}
+
 function line_of_binary(name, sum, states) {
   const style = (state) => (!sum[state] ? "zero" : state === "failed" ? "is-failed" : "");
   const cells = states.map((state) => element("td", style(state), whole(sum[state])));
@@ -101,14 +113,18 @@ function line_of_binary(name, sum, states) {
   return element("tr", "", element("td", "", named), ...cells, time);
 }
 
+const HOW_TESTS_COUNT = "Each number counts a test once, by how it ended at last. "
+  + "Setup scripts aren't tests.";
+
+function sum_of_no_test() {
+  return { ...Object.fromEntries(STATES_OF_TESTS.map((state) => [state, 0])), seconds: 0 };
+}
+
 // How many tests of each binary are in each state, and how long they took.
 function sums_of_binaries() {
   const sums = new Map();
   for (const test of TESTS.filter((one) => one.state !== "script")) {
-    if (!sums.has(test.binary)) {
-      const none = STATES_OF_TESTS.map((state) => [state, 0]);
-      sums.set(test.binary, { ...Object.fromEntries(none), seconds: 0 });
-    }
+    if (!sums.has(test.binary)) sums.set(test.binary, sum_of_no_test());
     const sum = sums.get(test.binary);
     sum[test.state]++;
     sum.seconds += test.seconds;
@@ -128,16 +144,18 @@ function table_of_binaries() {
   const states = STATES_OF_TESTS.filter((state) => COUNTS[state]);
   const words = ["Binary", ...states.map((state) => STATES[state].word), "time"];
   const head = element("thead", "", element("tr", "", ...words.map(head_of_column)));
+  if (RUN.unnamed) sums.set(null, { ...sum_of_no_test(), "not-started": RUN.unnamed });
   const worst = [...sums].sort(
     ([, one], [, other]) => other.failed - one.failed || other.seconds - one.seconds,
   );
   const body = worst.slice(0, MOST_ITEMS)
-    .map(([binary, sum]) => line_of_binary(BINARIES[binary], sum, states));
+    .map(([binary, sum]) => line_of_binary(BINARIES[binary] ?? "without a name", sum, states));
   const table = element("table", "", head, element("tbody", "", ...body));
   const left = worst.length - body.length;
   const told = `${plural(left, "binary", "binaries")} more aren't shown`;
-  return element("section", "", element("h3", "", "Binaries"), element("div", "wide-table", table),
-    left ? element("p", "more", told) : "");
+  return element("section", "binaries", element("h3", "", "Binaries"),
+    element("div", "wide-table", table), left ? element("p", "more", told) : "",
+    element("p", "more", HOW_TESTS_COUNT));
 }
 
 function about_run() {
@@ -177,11 +195,12 @@ function draw_run() {
   details.replaceChildren(
     ...warnings,
     ...all_failures(),
+    never_started(),
     part(`${whole(flaky.length)} flaky, passed when tried again`, flaky, with_reason),
     part(`${whole(beside.length)} ran beside a crash, and passed alone`, beside, with_reason),
     element("div", "pair",
       part("Slowest tests", slowest, () => ({ bar: true })),
-      element("div", "", table_of_binaries(), about_run())),
+      element("div", "", table_of_binaries(), slots_part(), path_part(), about_run())),
   );
   const first = details.querySelector("h3");
   if (first && !warnings.length) first.style.marginTop = "0";

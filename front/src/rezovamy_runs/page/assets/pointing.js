@@ -275,9 +275,10 @@ function draw_legend() {
   const used = Object.keys(words).filter((kind) => there.has(kind));
   const items = used.map((kind) => [kind, words[kind]]);
   if (PAUSES.length) items.push(["pause", "pause"]);
+  if (PATH.length) items.push(["path", "critical path"]);
   document.getElementById("legend").replaceChildren(...items.map(([kind, word]) => {
     const swatch = element("i", `slice-${kind}`);
-    if (kind !== "pause") {
+    if (words[kind]) {
       swatch.style.background = `var(--slice-${kind})`;
       swatch.style.borderColor = `var(--edge-${kind})`;
     }

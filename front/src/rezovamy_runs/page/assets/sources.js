@@ -21,7 +21,8 @@ function source_address(file, line) {
   return RUN.source.replaceAll("{file}", path).replaceAll("{line}", line);
 }
 
-// Makes links of the places in the texts below a node; a path from the root is of another project.
+// Makes links of the places in the texts below a node; a path from the root, or out of the folder
+// of the project, is of another one.
 function link_sources(node) {
   if (!RUN.source) return node;
   const walker = document.createTreeWalker(node, NodeFilter.SHOW_TEXT), texts = [];
@@ -32,7 +33,9 @@ function link_sources(node) {
     let from = 0;
     for (const found of text.data.matchAll(PLACE)) {
       if (left-- <= 0) break;
-      const link = web_link(source_address(found[1], found[2]), found[0]);
+      const file = found[1].replace(/^(?:\.\/)+/, "");
+      if (file.split("/").includes("..")) continue;
+      const link = web_link(source_address(file, found[2]), found[0]);
       parts.push(text.data.slice(from, found.index), link);
       from = found.index + found[0].length;
     }

@@ -3,10 +3,11 @@
 const STATES = {
   failed: { mark: "✕", word: "failed", rank: 0 },
   unfinished: { mark: "◌", word: "unfinished", rank: 1 },
-  flaky: { mark: "↻", word: "flaky", rank: 2 },
-  passed: { mark: "✓", word: "passed", rank: 3 },
-  skipped: { mark: "–", word: "skipped", rank: 4 },
-  script: { mark: "◆", word: "setup script", short: "setup", rank: 5 },
+  "not-started": { mark: "○", word: "never started", rank: 2 },
+  flaky: { mark: "↻", word: "flaky", rank: 3 },
+  passed: { mark: "✓", word: "passed", rank: 4 },
+  skipped: { mark: "–", word: "skipped", rank: 5 },
+  script: { mark: "◆", word: "setup script", short: "setup", rank: 6 },
 };
 
 // What a character of a test's marks says, one for each run.
