@@ -55,21 +55,20 @@ def test_the_next_lines_show_the_run(clone: Clone) -> None:
     assert counts_of(clone.target / "rezovamy-junit/junit.xml") == ["9", "2", "0"]
 
 
+@pytest.mark.usefixtures("first_run")
 def test_the_lines_that_call_each_program(clone: Clone) -> None:
     """They leave all their files, and end as cargo does."""
-    clone.run(
-        block_of("docs/FRONT_END.md", "front/session_from_libtest", "rezovamy record"), ".", 101
-    )
+    clone.run(block_of("docs/FRONT_END.md", "session_from_libtest", "rezovamy record"), ".", 101)
     for name in ("run.session", "run.bundle"):
         assert (clone.made / name).stat().st_size
     assert json.loads((clone.made / "run.trace.json").read_bytes())["traceEvents"]
     assert counts_of(clone.made / "junit/junit.xml") == ["8", "2", "0"]
 
 
+@pytest.mark.usefixtures("first_run")
 def test_the_lines_of_the_program_work_as_they_stand(clone: Clone) -> None:
     """They work one after the other; the last one records a session whose head is refused."""
     shutil.copytree(TOP / "crates/rezovamy/data", clone.folder / "crates/rezovamy/data")
-    clone.run("front/install.sh ~/.local", ".", 0)
     *blocks, refused = blocks_of("docs/CLI.md")
     printed = "".join(clone.run(block, ".", 0) for block in blocks).splitlines()
     for line in (
