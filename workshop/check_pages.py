@@ -5,10 +5,10 @@
 - Each link to a file or a heading of this repository, in README.md and docs/, leads there.
 - Each path in backquotes with a slash and a known ending, as `rec_store/specs/Cut.antt`, is there.
 - In docs/PROOFS.md each call of a table is a function or a type of the crate whose heading stands
-  above it, each answer a variant of some crate, each clause stands in the contract of a function of
-  one of these names, and each definition in some `specs/`. In a table whose rows begin with the
-  crate, a call `of` a type stands in a block of this type, and its clauses in that very function or
-  among the laws of the block.
+  above it, and each answer a variant of some crate. Each name in the last cell is a clause in the
+  contract of a function of one of these names, or a definition in some `specs/`. In a table whose
+  rows begin with the crate, a call `of` a type stands in a block of this type, and its clauses in
+  that very function or among the laws of the block.
 - Where a page or a module of `workshop/cases` names tests after a crate of tests, as
   `rec_store_tests`: `a_name`, the crate has them.
 - Each crate of crates.txt is named in README.md or docs/ARCHITECTURE.md, and each crate that these
@@ -135,20 +135,16 @@ def owned_call_faults(
 def row_faults(
     crate: str, places: Sequence[str], cells: Sequence[str], crates: Crates
 ) -> Iterator[str]:
-    """Yield what is wrong with a row of calls, clauses and definitions."""
+    """Yield what is wrong with a row of calls, whose last cell names clauses or definitions."""
     calls = quoted(cells[0])
     for name in calls:
         if not any(name in crates.names_of(place) for place in places):
             yield f"no {name} in {', '.join(places)}"
-    if len(cells) == 4:
-        contracts = crates.contracts_of(crate)
-        clauses = set().union(*(contracts.get(name, set()) for name in calls))
-        for name in quoted(cells[2]):
-            if name not in clauses:
-                yield f"no clause {name} of {', '.join(calls)} in {crate}"
+    contracts = crates.contracts_of(crate)
+    known = set().union(crates.definitions(), *(contracts.get(name, set()) for name in calls))
     for name in quoted(cells[-1]) if len(cells) > 2 else []:
-        if name not in crates.definitions():
-            yield f"no definition {name}"
+        if name not in known:
+            yield f"no clause {name} of {', '.join(calls)} in {crate}, and no such definition"
 
 
 def proof_faults(page: Path, crates: Crates) -> Iterator[str]:

@@ -8,7 +8,7 @@ import pytest
 
 from rezovamy_runs.faults.causes import COMMANDS, TAKEN
 from workshop import TOP, check_pages
-from workshop.crate_sources import contracts_in
+from workshop.crate_sources import Crates, contracts_in
 
 LINES = """
 | Status | Line on standard error | Meaning |
@@ -77,6 +77,35 @@ def test_crates_are_named_and_listed(tmp_path: Path) -> None:
     assert list(check_pages.crate_faults(tmp_path)) == [
         "crates.txt: rec_store is named neither in README.md nor in docs/ARCHITECTURE.md",
         "docs/ARCHITECTURE.md: no crate rec_other",
+    ]
+
+
+PROOFS = """
+## `rec_a`
+
+| Call | Promises | By |
+|---|---|---|
+| `open` | It is open | `ok`, `Opens` |
+| `open`, `shut` | It is shut | `whole` |
+| `gone` | It is gone | |
+| `open` | It is whole | `whole`, `Shuts` |
+"""
+
+
+def test_calls_have_their_clauses_and_definitions(tmp_path: Path) -> None:
+    (tmp_path / "rec_a/src").mkdir(parents=True)
+    (tmp_path / "rec_a/specs").mkdir()
+    (tmp_path / "rec_a/src/lib.rt").write_text(
+        "pub fn open()\n    ensures ok { Opens }\n{\n}\n"
+        "pub fn shut()\n    ensures whole { Opens }\n{\n}\n"
+    )
+    (tmp_path / "rec_a/specs/Opening.antt").write_text("Opens : Type 0\n")
+    page = tmp_path / "PROOFS.md"
+    page.write_text(PROOFS)
+    assert list(check_pages.proof_faults(page, Crates(tmp_path))) == [
+        "no gone in rec_a",
+        "no clause whole of open in rec_a, and no such definition",
+        "no clause Shuts of open in rec_a, and no such definition",
     ]
 
 

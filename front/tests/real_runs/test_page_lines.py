@@ -5,11 +5,13 @@ from __future__ import annotations
 import json
 import pathlib
 import re
+import shutil
 from xml.etree import ElementTree
 
 import pytest
 
-from tests.real_runs.cloned import Clone, block_of, clone_in
+from tests import TOP
+from tests.real_runs.cloned import Clone, block_of, blocks_of, clone_in
 
 pytestmark = [pytest.mark.cargo, pytest.mark.program]
 
@@ -53,12 +55,30 @@ def test_the_next_lines_show_the_run(clone: Clone) -> None:
     assert counts_of(clone.target / "rezovamy-junit/junit.xml") == ["9", "2", "0"]
 
 
+@pytest.mark.usefixtures("first_run")
 def test_the_lines_that_call_each_program(clone: Clone) -> None:
     """They leave all their files, and end as cargo does."""
-    clone.run(
-        block_of("docs/FRONT_END.md", "front/session_from_libtest", "rezovamy record"), ".", 101
-    )
+    clone.run(block_of("docs/FRONT_END.md", "session_from_libtest", "rezovamy record"), ".", 101)
     for name in ("run.session", "run.bundle"):
         assert (clone.made / name).stat().st_size
     assert json.loads((clone.made / "run.trace.json").read_bytes())["traceEvents"]
     assert counts_of(clone.made / "junit/junit.xml") == ["8", "2", "0"]
+
+
+@pytest.mark.usefixtures("first_run")
+def test_the_lines_of_the_program_work_as_they_stand(clone: Clone) -> None:
+    """They work one after the other; the last one records a session whose head is refused."""
+    shutil.copytree(TOP / "crates/rezovamy/data", clone.folder / "crates/rezovamy/data")
+    *blocks, refused = blocks_of("docs/CLI.md")
+    printed = "".join(clone.run(block, ".", 0) for block in blocks).splitlines()
+    for line in (
+        "events=164 outputs=16",
+        "1003.000000000 test-finished bin-0 t0 stdout=9 stderr=-",
+        "run=11000000000",
+        "slot=1 busy=6000000000 paused=3000000000 idle=2000000000",
+        "expects_a_product",
+        "accepted=10",
+    ):
+        assert line in printed, line
+    assert printed[-1] == "events=10 outputs=2"
+    clone.run(refused, ".", 5)
