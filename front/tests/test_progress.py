@@ -179,10 +179,7 @@ def test_few_words_on_a_narrow_terminal(
     seconds = itertools.count()
     drawn = ProcessProgress(12, ProgressLine(stream, lambda: float(next(seconds))))
     first, second = shell("a"), shell("b")
-    for told in (
-        Started(first, 1, 1, 0, 0),
-        Started(second, 1, 1, 1, 0),
-        Ended(first, 1, 1, 0, ran, None, 20 * SECOND),
-    ):
-        drawn.show(told)
+    drawn.show(Started(first, 1, 1, 0, 0))
+    drawn.show(Started(second, 1, 1, 1, 0))
+    drawn.show(Ended(first, 1, 1, 0, ran, None, 20 * SECOND))
     assert stream.getvalue().rpartition("\x1b[K")[2] == line
