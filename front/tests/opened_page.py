@@ -38,7 +38,18 @@ class Page:
         fragment: str = "",
     ) -> None:
         """Open the page of a session in a window of this size, at a fragment of its address."""
-        self.address = written_page(session, self.folder)
+        self.open_at(written_page(session, self.folder), wide, high, dark, fragment)
+
+    def open_at(
+        self,
+        address: str,
+        wide: int = 1400,
+        high: int = 900,
+        dark: bool = False,
+        fragment: str = "",
+    ) -> None:
+        """Open the page at an address, as `open` does."""
+        self.address = address
         self.browser.events.clear()
         self.browser.open(self.address + fragment, wide, high, dark)
         self.browser.wait_until(READY)

@@ -18,8 +18,6 @@ from tests.front_end import FrontEnd
 LONGEST_WAIT = 120.0
 MARK = "REZOVAMY_TEST_MARK"
 ENDS = ("test", "--", "-p", "ways", "--test", "ends", "--")
-# Variables that change what is run, or where it is recorded.
-LEFT_OUT = ("RUSTC_BOOTSTRAP", "REZOVAMY_RUNS", "RUST_TEST_THREADS", "RUSTDOC")
 
 
 def wait_until(holds: Callable[[], bool], longest: float = LONGEST_WAIT) -> None:
@@ -31,10 +29,9 @@ def wait_until(holds: Callable[[], bool], longest: float = LONGEST_WAIT) -> None
 
 
 @dataclasses.dataclass
-class StartedRun:
-    """A run in a process group of its own; its processes are known by a mark."""
+class Marked:
+    """Processes that are known by a mark in their environment."""
 
-    process: subprocess.Popen[str]
     mark: str
 
     def processes(self) -> dict[int, str]:
@@ -50,10 +47,30 @@ class StartedRun:
     def find(self, part: str) -> int | None:
         """Return the id of a process with this part in its command line, None without one."""
         found = [process for process, words in self.processes().items() if part in words]
-        return found[0] if found else None
+        return min(found, default=None)
 
     def wait_for(self, part: str) -> int:
         """Wait for a process with this part in its command line, and return its id."""
+        wait_until(lambda: self.find(part) is not None)
+        found = self.find(part)
+        assert found is not None
+        return found
+
+    def kill_all(self) -> None:
+        """Kill what hasn't ended."""
+        for process in self.processes():
+            with contextlib.suppress(ProcessLookupError):
+                os.kill(process, signal.SIGKILL)
+
+
+@dataclasses.dataclass
+class StartedRun(Marked):
+    """A run in a process group of its own."""
+
+    process: subprocess.Popen[str]
+
+    def wait_for(self, part: str) -> int:
+        """Wait as long as the run goes on."""
         wait_until(lambda: self.find(part) is not None or self.process.poll() is not None)
         found = self.find(part)
         assert found is not None, self.process.communicate()
@@ -71,12 +88,6 @@ class StartedRun:
         else:
             os.kill(self.worker() if victim == "worker" else self.process.pid, signal.SIGKILL)
 
-    def kill_all(self) -> None:
-        """Kill what hasn't ended."""
-        for process in self.processes():
-            with contextlib.suppress(ProcessLookupError):
-                os.kill(process, signal.SIGKILL)
-
 
 @contextlib.contextmanager
 def started(front_end: FrontEnd, *words: str) -> Iterator[StartedRun]:
@@ -91,7 +102,7 @@ def started(front_end: FrontEnd, *words: str) -> Iterator[StartedRun]:
         text=True,
         process_group=0,
     )
-    run = StartedRun(process, mark)
+    run = StartedRun(mark, process)
     with process:
         try:
             yield run
@@ -116,3 +127,9 @@ def is_at(front_end: FrontEnd, **counts: int) -> bool:
     return [told(run, "status", *counts) for run in listed(front_end)] == [
         ("running", *counts.values())
     ]
+
+
+def is_stopped(process: int) -> bool:
+    """Tell whether a process is stopped."""
+    state = pathlib.Path(f"/proc/{process}/stat").read_text().rpartition(")")[2].split()[0]
+    return state == "T"

@@ -3,7 +3,6 @@
 from __future__ import annotations
 
 import json
-import os
 import pathlib
 import shutil
 import subprocess
@@ -12,16 +11,14 @@ import pytest
 
 from rezovamy_runs.bundles import bundle
 from rezovamy_runs.model import Result, Run
-from tests import EXAMPLES
 from tests.front_end import FrontEnd
 
 pytestmark = [pytest.mark.cargo, pytest.mark.program]
 
-LEFT_OUT = ("RUSTC_BOOTSTRAP", "REZOVAMY_RUNS", "RUST_TEST_THREADS", "RUSTDOC")
 BUILT = shutil.ignore_patterns("target", "Cargo.lock")
 RUNNER = '#!/bin/sh\necho "through $1" >> "$THROUGH"\nshift\nexec "$@"\n'
 VARIABLE = "CARGO_TARGET_X86_64_UNKNOWN_LINUX_GNU_RUNNER"
-# How each test of `ways::ends` ends, and what is said of it.
+# How each test of `ways::ends` ends by itself, and what is said of it.
 ENDS = {
     "a_moment": (Result.PASS, ""),
     "passes": (Result.PASS, ""),
@@ -36,7 +33,6 @@ ENDS = {
     "exits_with_101": (Result.FAIL, "exit code 101"),
     "segfaults": (Result.ABORT, "signal 11, SIGSEGV"),
     "overflows_its_stack": (Result.ABORT, "signal 6, SIGABRT"),
-    "hangs": (Result.TIMEOUT, ""),
     "is_killed": (Result.ABORT, "signal 9, SIGKILL"),
     "leaks_a_child": (Result.LEAK, ""),
     "closes_descriptor_1": (Result.PASS, ""),
@@ -53,29 +49,9 @@ WHOLE_RUN = {
     "ways": LIBRARY,
     "ways::ends": [*ENDS, "is_ignored"],
     "ways::plain": ["plain"],
+    "ways::prints": ["a_line_of_5_megabytes", "what_a_child_prints", "what_is_no_text"],
     "ways::doc/ways": ["ways"],
 }
-
-
-@pytest.fixture(scope="module")
-def workspace(tmp_path_factory: pytest.TempPathFactory) -> pathlib.Path:
-    """A copy of the workspace."""
-    folder = tmp_path_factory.mktemp("endings") / "workspace"
-    shutil.copytree(EXAMPLES / "endings", folder, ignore=BUILT)
-    return folder
-
-
-@pytest.fixture
-def endings(workspace: pathlib.Path, program: pathlib.Path, tmp_path: pathlib.Path) -> FrontEnd:
-    """A front end in the workspace, with a folder of runs of its own."""
-    own = {
-        "REZOVAMY": str(program),
-        "REZOVAMY_RUNS": str(tmp_path / "runs"),
-        "CARGO_NET_OFFLINE": "true",
-        "RUST_BACKTRACE": "0",
-    }
-    left = {name: value for name, value in os.environ.items() if name not in LEFT_OUT}
-    return FrontEnd(workspace, {**left, **own})
 
 
 def last_run(front_end: FrontEnd) -> Run:
@@ -104,7 +80,7 @@ def fresh(front_end: FrontEnd) -> list[bool]:
 
 def test_each_way_of_ending(endings: FrontEnd) -> None:
     """Exactly the test that ended so is told so."""
-    done = endings.run("test", "--timeout", "3")
+    done = endings.run("test", "--", "--", "--skip", "hangs")
     assert done.returncode == 101
     run = last_run(endings)
     assert names_of(run) == {binary: sorted(tests) for binary, tests in WHOLE_RUN.items()}
@@ -118,7 +94,7 @@ def test_each_way_of_ending(endings: FrontEnd) -> None:
     others = {
         (test.binary, test.name): test.attempts[-1].result
         for test in run.tests
-        if test.binary != "ways::ends"
+        if test.binary not in ("ways::ends", "ways::prints")
     }
     assert others.pop(("ways::doc/ways", "ways")) is Result.FAIL
     assert set(others.values()) == {Result.PASS}
@@ -126,7 +102,26 @@ def test_each_way_of_ending(endings: FrontEnd) -> None:
     assert "one is not two" in done.stderr
 
 
-@pytest.mark.parametrize("name", [name for name in ENDS if name not in ("a_moment", "hangs")])
+@pytest.mark.parametrize("way", [(), ("--shared",)], ids=["alone", "shared"])
+def test_what_is_hard_to_keep(endings: FrontEnd, way: tuple[str, ...]) -> None:
+    """A very long line keeps its ends. Bytes that are no text are printed, and don't disturb."""
+    done = endings.run("test", *way, "--", "-p", "ways", "--test", "prints")
+    assert done.returncode == 101
+    run = last_run(endings)
+    long, child, no_text = sorted(run.tests, key=lambda test: test.name)
+    assert [test.attempts[0].result for test in (long, child, no_text)] == [
+        Result.PASS,
+        Result.FAIL,
+        Result.FAIL,
+    ]
+    kept = b"".join(long.attempts[0].outputs.values())
+    assert b"xxx" in kept and b"x<\n" in kept and len(kept) < 5_000_000
+    assert "größer als 你好" in done.stderr
+    for text in ("from a child", "and its error", "after its child"):
+        assert text in done.stderr
+
+
+@pytest.mark.parametrize("name", [name for name in ENDS if name != "a_moment"])
 def test_each_way_of_ending_in_a_shared_process(endings: FrontEnd, name: str) -> None:
     """The test beside it has passed, whatever became of their process."""
     words = ["-p", "ways", "--test", "ends", "--", "--test-threads=2", "--exact", "a_moment", name]

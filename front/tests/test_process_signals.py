@@ -16,6 +16,7 @@ from collections.abc import Callable, Iterator
 import pytest
 
 from tests import FRONT
+from tests.stopped_runs import is_stopped
 
 LONGEST_WAIT = 30.0
 # How long the processes of a run that was killed have to go.
@@ -98,11 +99,6 @@ class GuardedRun:
     def assert_nobody_is_left(self) -> None:
         """Wait for all processes to go, but no longer than a moment."""
         self.wait_for(lambda: not self.alive(), MOMENT)
-
-    def is_stopped(self, process: int) -> bool:
-        """Tell whether a process is stopped."""
-        state = pathlib.Path(f"/proc/{process}/stat").read_text().rpartition(")")[2].split()[0]
-        return state == "T"
 
 
 @pytest.fixture
@@ -219,7 +215,7 @@ def test_a_pause_is_told_and_counts_for_no_test(guarded_run: Start) -> None:
     time.sleep(0.5)
     run.process.send_signal(signal.SIGTSTP)
     run.line("paused")
-    run.wait_for(lambda: run.is_stopped(run.process.pid) and run.is_stopped(run.worker))
+    run.wait_for(lambda: is_stopped(run.process.pid) and is_stopped(run.worker))
     time.sleep(2.5)
     run.process.send_signal(signal.SIGCONT)
     continued, failed, *_ = run.rest()
@@ -280,7 +276,7 @@ def test_nobody_is_left_after_a_kill_in_a_pause(guarded_run: Start) -> None:
     run.line("started setsid")
     time.sleep(0.2)
     run.process.send_signal(signal.SIGTSTP)
-    run.wait_for(lambda: run.is_stopped(run.process.pid))
+    run.wait_for(lambda: is_stopped(run.process.pid))
     run.process.kill()
     run.assert_nobody_is_left()
 

@@ -4,6 +4,7 @@ from __future__ import annotations
 
 import fcntl
 import io
+import itertools
 import json
 import os
 import struct
@@ -13,11 +14,15 @@ import pytest
 
 from rezovamy_runs import terminal
 from rezovamy_runs.json_values import JsonObject
-from rezovamy_runs.runner.progress import Progress
+from rezovamy_runs.processes.jobs import Ended, Ending, Exit, Started, Verdict
+from rezovamy_runs.runner.process_progress import ProcessProgress
+from rezovamy_runs.runner.progress import Progress, ProgressLine
 from rezovamy_runs.runner.session_builder import SessionBuilder
 from rezovamy_runs.streams.clock import measured_clock
+from rezovamy_runs.streams.messages import SECOND
 from rezovamy_runs.streams.run_state import Console
 from rezovamy_runs.terminal import Paint
+from tests.process_runs import shell
 
 SUITE: JsonObject = {"type": "suite", "event": "started", "test_count": 3}
 
@@ -154,3 +159,27 @@ def test_a_stream_that_is_no_terminal_has_the_usual_width(
     monkeypatch.delenv("COLUMNS", raising=False)
     with open(os.devnull, "w", encoding="utf-8") as stream:
         assert terminal.width_of(stream) == 80
+
+
+@pytest.mark.parametrize(
+    ("columns", "line"),
+    [
+        (80, "1 of 12 tests ended, 0 failed; running: b 20.0s"),
+        (48, "1 of 12 tests ended, 0 failed; running: b 20.0s"),
+        (47, "1/12, 0 failed; b 20.0s"),
+        (20, "1/12, 0 failed;  .."),
+    ],
+)
+def test_few_words_on_a_narrow_terminal(
+    monkeypatch: pytest.MonkeyPatch, columns: int, line: str
+) -> None:
+    monkeypatch.setenv("COLUMNS", str(columns))
+    monkeypatch.setenv("TERM", "xterm")
+    stream, ran = Stream(is_terminal=True), Ending(Verdict.PASSED, Exit(0), 0, 1)
+    seconds = itertools.count()
+    drawn = ProcessProgress(12, ProgressLine(stream, lambda: float(next(seconds))))
+    first, second = shell("a"), shell("b")
+    drawn.show(Started(first, 1, 1, 0, 0))
+    drawn.show(Started(second, 1, 1, 1, 0))
+    drawn.show(Ended(first, 1, 1, 0, ran, None, 20 * SECOND))
+    assert stream.getvalue().rpartition("\x1b[K")[2] == line

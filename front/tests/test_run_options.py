@@ -9,7 +9,7 @@ import pytest
 from rezovamy_runs.commands import run_options
 from rezovamy_runs.faults.fault import Fault
 
-ALONE = ["--timeout 2", "--slow-after 2", "--test-threads 2", "--fail-fast", "--setup a=true"]
+ALONE = ["--slow-after 2", "--test-threads 2", "--fail-fast", "--setup a=true"]
 
 
 def words_of(line: str) -> argparse.Namespace:
@@ -28,13 +28,14 @@ def test_options_that_need_a_process_for_each_test(option: str) -> None:
     assert (str(fault.value), fault.value.status) == (said, 2)
 
 
-def test_retries_beside_shared() -> None:
-    words = words_of("--shared --retries 2")
+def test_options_beside_shared() -> None:
+    words = words_of("--shared --retries 2 --timeout 1.5")
     run_options.refuse_with_shared(words)
-    assert run_options.options_of_run(words).retries == 2
+    options = run_options.options_of_run(words)
+    assert (options.retries, options.timeout) == (2, 1_500_000_000)
 
 
-@pytest.mark.parametrize("option", [*ALONE, "--retries 2", "--shared"])
+@pytest.mark.parametrize("option", [*ALONE, "--retries 2", "--timeout 2", "--shared"])
 def test_options_beside_lines_that_are_there(option: str) -> None:
     with pytest.raises(Fault) as fault:
         run_options.refuse_with_lines(words_of(option))

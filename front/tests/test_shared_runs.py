@@ -23,6 +23,7 @@ from rezovamy_runs.processes.jobs import (
 )
 from rezovamy_runs.processes.loop import Loop
 from rezovamy_runs.processes.run import Run
+from rezovamy_runs.streams.messages import SECOND
 from tests.process_runs import events_of, program
 
 # Functions of a shell in place of libtest: the start of a test, its end, and that with an output.
@@ -39,6 +40,7 @@ log=$2
 case NAME in
     bad*) echo 'failed NAME' >> $log; exit 101;;
     crash*) kill -SEGV $$;;
+    hang*) exec sleep 60;;
     quit*) exit 0;;
     *) echo 'ok NAME' >> $log;;
 esac
@@ -211,6 +213,60 @@ def test_retries(text: str, names: str, expected: str) -> None:
             other.job is event.job and other.attempt > event.attempt for other in ended
         )
         assert event.next_attempt == (None if is_last else event.attempt + 1)
+
+
+@pytest.mark.parametrize(
+    ("text", "names", "expected"),
+    [
+        pytest.param(
+            "start a; end ok a; start hangs; sleep 1; start b; start bad; sleep 60",
+            "a hangs b bad c",
+            "a 0, a passed, hangs 0, b 1, bad 2, hangs slow, hangs timed out, b passed, bad failed",
+            id="tests beside it, and one that never starts",
+        ),
+        pytest.param(
+            "trap '' TERM; start hangs; while :; do sleep 0.1; done",
+            "hangs",
+            "hangs 0, hangs slow, hangs timed out",
+            id="a process that goes on",
+        ),
+        pytest.param(
+            "trap 'end ok hangs; exit 0' TERM; start hangs; while :; do sleep 0.1; done",
+            "hangs",
+            "hangs 0, hangs slow, hangs timed out",
+            id="it passes after that",
+        ),
+        pytest.param(
+            "start a; note ok a; sleep 3", "a", "a 0, a passed", id="only the log has its end"
+        ),
+    ],
+)
+def test_a_timeout(text: str, names: str, expected: str) -> None:
+    """Exactly the tests that reached it are told so."""
+    settings = Settings(1, timeout=2 * SECOND)
+    assert told(events_of([], settings, groups=[group_of(text, *names.split())])) == expected
+
+
+def test_what_is_said_of_a_timeout() -> None:
+    text = "start hangs; sleep 1; start b; sleep 60"
+    settings = Settings(1, retries=1, timeout=2 * SECOND)
+    events = events_of([], settings, groups=[group_of(text, "hangs", "b")])
+    ended = [event for event in events if isinstance(event, Ended)]
+    assert [(event.job.test_name, event.attempt, event.ending.error) for event in ended] == [
+        ("hangs", 1, "its process held what it printed, which is lost"),
+        (
+            "b",
+            1,
+            "ran beside a timeout: its process was ended since hangs ran for too long; "
+            "by itself it passed",
+        ),
+        ("hangs", 2, ""),
+    ]
+    assert [event.ending.verdict for event in ended] == [
+        Verdict.TIMED_OUT,
+        Verdict.PASSED,
+        Verdict.TIMED_OUT,
+    ]
 
 
 def test_a_run_that_is_cancelled_before_a_retry() -> None:

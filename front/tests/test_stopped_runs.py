@@ -16,7 +16,7 @@ import pytest
 
 from tests import EXAMPLES, made
 from tests.front_end import FrontEnd
-from tests.stopped_runs import ENDS, LEFT_OUT, is_at, listed, started, told, wait_until
+from tests.stopped_runs import ENDS, is_at, listed, started, told, wait_until
 
 pytestmark = [pytest.mark.cargo, pytest.mark.program]
 
@@ -39,27 +39,11 @@ exit $status
 SLOW_BUILD = 'fn main() { std::process::Command::new("sleep").arg("600").status().unwrap(); }'
 
 
-@pytest.fixture(scope="module")
-def workspace(tmp_path_factory: pytest.TempPathFactory) -> pathlib.Path:
-    """A copy of the workspace, which is built already."""
-    folder = tmp_path_factory.mktemp("stopped") / "workspace"
-    shutil.copytree(EXAMPLES / "endings", folder, ignore=BUILT)
+@pytest.fixture(scope="module", autouse=True)
+def built(workspace_of_endings: pathlib.Path) -> None:
+    """Build the tests, so that those that wait for them don't wait for cargo."""
     words = ["cargo", "test", "--offline", "--no-run", "-p", "ways", "--test", "ends"]
-    subprocess.run(words, cwd=folder, capture_output=True, check=True)
-    return folder
-
-
-@pytest.fixture
-def endings(workspace: pathlib.Path, program: pathlib.Path, tmp_path: pathlib.Path) -> FrontEnd:
-    """A front end in the workspace, with a folder of runs of its own."""
-    own = {
-        "REZOVAMY": str(program),
-        "REZOVAMY_RUNS": str(tmp_path / "runs"),
-        "CARGO_NET_OFFLINE": "true",
-        "RUST_BACKTRACE": "0",
-    }
-    left = {name: value for name, value in os.environ.items() if name not in LEFT_OUT}
-    return FrontEnd(workspace, {**left, **own})
+    subprocess.run(words, cwd=workspace_of_endings, capture_output=True, check=True)
 
 
 def endings_of(front_end: FrontEnd) -> list[str]:
@@ -163,17 +147,20 @@ def test_what_the_killed_worker_leaves_is_told(endings: FrontEnd) -> None:
 
 def test_a_run_within_a_time(endings: FrontEnd) -> None:
     """The signal of `timeout` cancels it."""
-    words = ["timeout", "5", *endings.words(*THREE_AND_HANGS)]
-    done = subprocess.run(
-        words, cwd=endings.folder, env=endings.environment, capture_output=True, check=False
-    )
-    assert done.returncode == 124
-    assert told(only_run(endings), "status", "exit-code", "passed", "failed") == (
-        "cancelled",
-        143,
-        2,
-        2,
-    )
+    words = ["timeout", "600", *endings.words(*THREE_AND_HANGS)]
+    with subprocess.Popen(
+        words,
+        cwd=endings.folder,
+        env=endings.environment,
+        stdout=subprocess.DEVNULL,
+        stderr=subprocess.DEVNULL,
+    ) as timed:
+        wait_until(lambda: is_at(endings, passed=2, failed=1, unended=1))
+        # This is how the system tells it that the time is over.
+        timed.send_signal(signal.SIGALRM)
+    assert timed.returncode == 124
+    counts = told(only_run(endings), "status", "exit-code", "passed", "failed")
+    assert counts == ("cancelled", 143, 2, 2)
     assert endings_of(endings) == WHOLE
 
 

@@ -14,8 +14,8 @@ MOST_RETRIES, MOST_SLOTS = 1000, 10_000
 # As long as libtest takes to say that a test runs for long.
 SLOW_AFTER = "60"
 # The options by their names among the words that were read.
-NAMES_WITH_SHARED = ("retries",)
-NAMES_ALONE = ("timeout", "slow_after", "test_threads", "fail_fast", "setup")
+NAMES_WITH_SHARED = ("retries", "timeout")
+NAMES_ALONE = ("slow_after", "test_threads", "fail_fast", "setup")
 
 
 def nanoseconds(word: str) -> int:

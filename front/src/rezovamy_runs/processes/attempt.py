@@ -80,12 +80,22 @@ class Attempt:
             case Step.CALL_SLOW:
                 self.is_slow = True
             case Step.TERMINATE:
-                self.is_timed_out = True
-                self._end(signal.SIGTERM, now + self._settings.grace)
+                self.time_out(now)
             case Step.KILL:
                 self._child.send(signal.SIGKILL)
             case Step.ABANDON_OUTPUTS:
                 self.leaked = self._child.abandon()
+
+    def call_slow_at(self, instant: int | None) -> None:
+        """Call the attempt slow at an instant and not before; never if it is None."""
+        self._steps.pop(Step.CALL_SLOW, None)
+        if instant is not None:
+            self._steps[Step.CALL_SLOW] = instant
+
+    def time_out(self, now: int) -> None:
+        """Ask the process to end, because it has run for too long."""
+        self.is_timed_out = True
+        self._end(signal.SIGTERM, now + self._settings.grace)
 
     def _end(self, number: int, kill_at: int) -> None:
         """Ask the process to end, and kill it at an instant if it still runs."""

@@ -34,6 +34,7 @@ from rezovamy_runs.streams.messages import TestEvent
 
 LOST = "another test broke the line that has its output, so the output is missing"
 CANCELLED = "the run was cancelled before this attempt started"
+HELD = "its process held what it printed, which is lost"
 ENDINGS = {"ok": Verdict.PASSED, "failed": Verdict.FAILED}
 EXITS = {Verdict.PASSED: Exit(0), Verdict.FAILED: Exit(LIBTEST_FAILED)}
 MOST_NAMES = 9
@@ -54,7 +55,8 @@ class SharedRun:
 
     A result is that of the log file. A test without one, whose process has ended, runs once more by
     itself. Only what fails then has failed. What failed is tried again by itself too, after the
-    process has ended, since it may share state with what runs there.
+    process has ended, since it may share state with what runs there. A test that reaches the
+    timeout ends its process, and is the only one that timed out.
     """
 
     def __init__(
@@ -66,6 +68,7 @@ class SharedRun:
         self._running: dict[str, Running] = {}
         self._free_slots: list[int] = []
         self._slow: set[str] = set()
+        self._timed_out: set[str] = set()
         self._failed = 0
         self._total_attempts = settings.retries + 1
         # Failed in the process, and tried again once that has ended.
@@ -105,9 +108,29 @@ class SharedRun:
                         pass
                     case _:
                         yield notice
-            yield from self._read_events(self._loop.now())
+            now = self._loop.now()
+            yield from self._read_events(now)
+            if self._settings.timeout is not None and not self._timed_out:
+                yield from self._mind_timeout(self._settings.timeout, now)
         self._lines.finish()
         yield from self._finish(outcome)
+
+    def _mind_timeout(self, timeout: int, now: int) -> Iterator[Event]:
+        """End the process if tests have reached the timeout, or wait for the next that may."""
+        ran = {name: self._ran(running, now) for name, running in self._running.items()}
+        late = [name for name in ran if ran[name] >= timeout and not self._result_of(name)]
+        for name in late:
+            yield Slow(self._running[name].job, 1, self._total_attempts, ran[name], True, now)
+        if late:
+            self._timed_out.update(late)
+            self._process.time_out(now)
+            return
+        longest = max((length for length in ran.values() if length < timeout), default=None)
+        self._process.call_slow_at(None if longest is None else now + timeout - longest)
+
+    def _ran(self, running: Running, now: int = 0) -> int:
+        """Return how long a test has run by now or until its process ended, without pauses."""
+        return max(0, self._process.elapsed(now) - running.process_elapsed)
 
     def _read_events(self, at: int) -> Iterator[Event]:
         """Read what the process has told."""
@@ -125,9 +148,9 @@ class SharedRun:
             yield self._start(event.name, at)
         elif running and event.kind == "timeout":
             self._slow.add(event.name)
-            elapsed = self._process.elapsed(at) - running.process_elapsed
+            elapsed = self._ran(running, at)
             yield Slow(running.job, 1, self._total_attempts, elapsed, False, at)
-        elif running and self._is_result(event):
+        elif running and event.name not in self._timed_out and self._is_result(event):
             error = event.message or ""
             yield self._end(running, ENDINGS[event.kind], at, found.output, error)
 
@@ -157,7 +180,7 @@ class SharedRun:
             verdict,
             EXITS[verdict],
             running.started,
-            max(0, self._process.elapsed(at) - running.process_elapsed),
+            self._ran(running, at),
             output,
             is_slow=running.job.test_name in self._slow,
             error=error,
@@ -185,6 +208,7 @@ class SharedRun:
     def _finish(self, outcome: Exit) -> Iterator[Event]:
         """See to what the process left, which ended so."""
         yield from self._end_by_log()
+        yield from self._end_timed_out(outcome)
         yield from self._settle(outcome)
         for job in self._tried_again:
             yield from self._try_again(job)
@@ -199,7 +223,8 @@ class SharedRun:
                 yield from self._run_alone(running, suspects, outcome)
         if self._supervisor.cancelled:
             return
-        said = self._fault(suspects, outcome) if self._failed == failed else ""
+        is_explained = self._timed_out or self._failed > failed
+        said = "" if is_explained else self._fault(suspects, outcome)
         if said:
             yield from self._end_itself(self._ending_of(Verdict.NO_RESULT, outcome, None, said))
             return
@@ -211,12 +236,19 @@ class SharedRun:
         """End the tests whose results only the log file has."""
         now = self._loop.now()
         for name in [*self._running, *self._waiting]:
-            verdict = self._result_of(name)
+            verdict = None if name in self._timed_out else self._result_of(name)
             if verdict and name in self._waiting:
                 yield self._start(name, now)
             if verdict:
                 error = "" if verdict is Verdict.PASSED else LOST
                 yield self._end(self._running[name], verdict, now, Captured(), error)
+
+    def _end_timed_out(self, outcome: Exit) -> Iterator[Event]:
+        """End the tests that reached the timeout."""
+        for name in sorted(self._timed_out):
+            running = self._running[name]
+            self._failed += 1
+            yield self._ended(running, self._ending_of(Verdict.TIMED_OUT, outcome, running, HELD))
 
     def _run_alone(
         self, running: Running, suspects: list[Running], outcome: Exit
@@ -224,11 +256,18 @@ class SharedRun:
         """Run a suspect by itself."""
         ending = yield from self._alone(running.job)
         if ending.verdict is Verdict.PASSED:
-            said = f"ran beside a crash: its process {how(outcome)}{beside(running, suspects)}"
+            said = f"ran beside {self._accident(running, suspects, outcome)}"
             ending = dataclasses.replace(ending, error=f"{said}; by itself it passed")
         else:
             self._failed += 1
         yield self._ended(running, ending)
+
+    def _accident(self, running: Running, suspects: list[Running], outcome: Exit) -> str:
+        """Return what a test ran beside that has no result."""
+        if self._timed_out:
+            late = shortened(sorted(self._timed_out))
+            return f"a timeout: its process was ended since {late} ran for too long"
+        return f"a crash: its process {how(outcome)}{beside(running, suspects)}"
 
     def _try_again(self, job: Job) -> Iterator[Event]:
         """Run a test by itself until it passes or has no attempt left."""
@@ -248,7 +287,7 @@ class SharedRun:
         tried = Try(self._supervisor, self._settings, functools.partial(by_test, job))
         ending: Ending | None = None
         try:
-            tried.start(job.program, Limits(), job.log_file)
+            tried.start(job.program, Limits(timeout=self._settings.timeout), job.log_file)
         except OSError as error:
             ending = not_started(error, now)
         while ending is None:
@@ -275,11 +314,11 @@ class SharedRun:
     ) -> Ending:
         """Return an ending that is that of the process."""
         begin = running.started if running else self._process.started
-        taken = self._process.elapsed() - (running.process_elapsed if running else 0)
+        taken = self._ran(running) if running else max(0, self._process.elapsed())
         outputs = self._printed() if running is None else (Captured(), Captured())
         if verdict is Verdict.NO_RESULT and outcome.signal is not None:
             verdict = Verdict.KILLED
-        return Ending(verdict, outcome, begin, max(0, taken), *outputs, error=said)
+        return Ending(verdict, outcome, begin, taken, *outputs, error=said)
 
     def _end_itself(self, ending: Ending) -> Iterator[Event]:
         """Tell a failure of the process, as one of the test that stands for it."""

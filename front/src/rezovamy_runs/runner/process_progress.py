@@ -104,11 +104,16 @@ class ProcessProgress:
         self._line.print_lines(self._printer.scripts([script], False))
 
     def _text(self, now: int) -> str:
-        """Return how far the run is."""
+        """Return how far the run is, in few words on a narrow terminal."""
         line = counted(self._ended, self._known, self._failed)
+        is_narrow = not self._line.fits(line + longest_of("", 0, 0))
+        if is_narrow:
+            line = f"{self._ended}/{self._known}, {self._failed} failed"
         if not self._running:
             return line
         name, since = min(self._running.values(), key=lambda running: running[1])
+        if is_narrow:
+            return f"{line}; {formatting.name(name)} {formatting.duration((now - since) / SECOND)}"
         return line + longest_of(name, now - since, len(self._running) - 1)
 
 

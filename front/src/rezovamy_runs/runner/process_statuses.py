@@ -50,7 +50,8 @@ def errors_in(ending: Ending) -> list[str]:
     """Return what is said of an attempt that didn't pass."""
     if ending.verdict is Verdict.PASSED:
         return [ending.error] if ending.error else []
-    found = errors_of(text_of(ending.stderr) + text_of(ending.stdout), ending.error or None)
+    outputs = (text_of(ending.stderr), text_of(ending.stdout))
+    found = errors_of(outputs, ending.error or None)
     return [*said_of(ending), *found]
 
 

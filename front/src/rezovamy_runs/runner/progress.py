@@ -57,6 +57,12 @@ class ProgressLine:
         self._drawn_at = self._clock()
         return True
 
+    def fits(self, line: str) -> bool:
+        """Tell whether the line isn't cut where it is shown."""
+        if not self.is_terminal or self.stream is None:
+            return True
+        return terminal.columns(line) < terminal.width_of(self.stream)
+
     def draw(self, line: str) -> None:
         """Show the line, on a terminal in place of the one before."""
         if self.is_terminal and self.stream is not None:

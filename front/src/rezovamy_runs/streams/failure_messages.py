@@ -3,6 +3,7 @@
 from __future__ import annotations
 
 import re
+from collections.abc import Sequence
 
 from rezovamy_runs.escapes import without_escapes
 
@@ -12,13 +13,14 @@ ERROR = re.compile(r"^(?:Error: |error(?:\[\w+\])?: |Test executable failed )", 
 LONGEST = 2000
 
 
-def errors_of(output: str, message: str | None) -> list[str]:
+def errors_of(outputs: Sequence[str], message: str | None) -> list[str]:
     """Return the errors of a failed test, the first of them in one line.
 
-    They are what libtest says of it, and what its output shows.
+    They are what libtest says of it, and what the first of its outputs shows that shows something.
     """
     errors = [] if message is None else in_lines(message)
-    found = panic(output) or error(output)
+    shown = (look(output) for look in (panic, error) for output in outputs)
+    found: list[str] = next(filter(None, shown), [])
     return errors + [line for line in found if line not in errors]
 
 

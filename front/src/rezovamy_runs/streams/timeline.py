@@ -76,7 +76,7 @@ class Timeline:
         attempt.output = None if event.output is None else to_bytes(event.output).hex()
         passed = event.kind == "ok"
         output = printable(event.output or "")
-        attempt.errors = [] if passed else errors_of(output, event.message)
+        attempt.errors = [] if passed else errors_of([output], event.message)
         failed: Result = "failed-timed-out" if event.is_timed_out else "failed"
         end = self.mark(self.clock.end_of(attempt.start.time, taken))
         end_attempt(attempt, end, "passed" if passed else failed, taken)
