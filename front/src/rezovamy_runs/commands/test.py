@@ -255,10 +255,7 @@ class Outputs:
     def _write_more(self, path: pathlib.Path) -> None:
         """Write what else is asked for of a run that was recorded, and print where it is."""
         if self.page:
-            page = page_command.written(
-                page_command.page_text(self.runs, path), page_command.beside(path)
-            )
-            print_out(f"{page}\n")
+            print_out(f"{page_command.write_beside(self.runs, path)}\n")
         if self.junit:
             paths = [path]
             if self.notes.parent:
