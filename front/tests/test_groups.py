@@ -91,8 +91,10 @@ def test_a_test_that_two_shards_ran_is_told_and_has_the_attempts_of_both(
     add(front_end, THIRD, Shard(2, 2), 20, two="pass")
     done = front_end.run("show", "g", "two")
     assert done.stderr == "rezovamy-runs: several runs of g ran alpha two\n"
-    assert "alpha two (attempt 1 of 2, exit code 101)" in done.stdout
-    assert "PASS [1.0s] alpha two (attempt 2 of 2)" in done.stdout
+    # The worse result counts, so it is the last attempt.
+    assert "PASS [1.0s] alpha two (attempt 1 of 2)" in done.stdout
+    assert "FAIL [1.0s] alpha two (attempt 2 of 2, exit code 101)" in done.stdout
+    assert "3 tests in 21.0s: 2 passed, 1 failed" in front_end.run("show", "g").stdout
 
 
 def test_the_page_of_a_group_says_what_lacks_and_what_ran_twice(front_end: FrontEnd) -> None:
@@ -109,7 +111,9 @@ def test_the_page_of_a_group_says_what_lacks_and_what_ran_twice(front_end: Front
     names = ["shard 1/2", "shard 2/2", "shard 2/3"]
     assert value["bands"] == [{"name": name, "slot": 4 * at} for at, name in enumerate(names)]
     slots = {one["name"]: [each["slot"] for each in one["attempts"]] for one in value["tests"]}
-    assert slots == {"one": [3], "two": [3, 11], "three": [7]}
+    # Shard 1 failed, and that counts: its attempt is the last one.
+    assert slots == {"one": [3], "two": [11, 3], "three": [7]}
+    assert [one["state"] for one in value["tests"] if one["name"] == "two"] == ["failed"]
 
 
 def test_a_group_is_compared_as_one_run(front_end: FrontEnd) -> None:

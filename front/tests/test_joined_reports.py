@@ -4,7 +4,7 @@ from __future__ import annotations
 
 import pytest
 
-from rezovamy_runs.report.joined_reports import Part, joined
+from rezovamy_runs.report.joined_reports import joined
 from rezovamy_runs.report.run_report import (
     Attempt,
     Case,
@@ -19,6 +19,7 @@ from rezovamy_runs.report.run_report import (
     Success,
     Suite,
 )
+from rezovamy_runs.store.as_one import Parts
 
 NOWHERE = Outputs()
 
@@ -65,12 +66,14 @@ CASES = [
     "first, second, is_again, status", [row[1:] for row in CASES], ids=[row[0] for row in CASES]
 )
 def test_a_test_of_two_runs(first: Status, second: Status, is_again: bool, status: Status) -> None:
-    found = joined([Part(report(1, first)), Part(report(2, second), is_again)])
+    parts = Parts((("a", "b"),)) if is_again else Parts((("a",), ("b",)))
+    found = joined({"a": [report(1, first)], "b": [report(2, second)]}, parts)
     ((case,),) = (suite.cases for suite in found.suites)
     assert case.status == status
 
 
 def test_the_whole_goes_from_the_first_start_to_the_last_end() -> None:
-    found = joined([Part(report(10, PASS, 20)), Part(report(13, PASS, 3, "u"))])
+    reports = {"a": [report(10, PASS, 20)], "b": [report(13, PASS, 3, "u")]}
+    found = joined(reports, Parts((("a",), ("b",))))
     assert (found.timestamp, found.time) == (Instant(10, 0, 0), Duration(20, 0))
     assert [[case.name for case in suite.cases] for suite in found.suites] == [["t", "u"]]

@@ -37,7 +37,7 @@ def test_rows_are_in_bands(page: Page) -> None:
     """The first row of a band has its name. The details say of which shard a slot is."""
     paths = [shard_of(page.folder, number) for number in (1, 2)]
     target = page.folder / "group.html"
-    target.write_text(document.page_of_group("g", paths))
+    target.write_text(document.page_of_several("g", paths))
     page.address = target.resolve().as_uri()
     page.browser.events.clear()
     page.browser.open(page.address, 1400, 900, False)

@@ -6,7 +6,6 @@ import argparse
 import contextlib
 import dataclasses
 import pathlib
-import sys
 from collections.abc import Sequence
 
 from rezovamy_runs import quarantine, recorder
@@ -17,16 +16,17 @@ from rezovamy_runs.faults.fault import Fault
 from rezovamy_runs.model import Run, TestName
 from rezovamy_runs.quarantine import Quarantine
 from rezovamy_runs.report import joined_reports, stopped_run
-from rezovamy_runs.report.joined_reports import Part
 from rezovamy_runs.report.junit import Document, document, reports_of
 from rezovamy_runs.report.junit_elements import JunitWriter
 from rezovamy_runs.report.run_events import NoEvents, of_run
-from rezovamy_runs.report.run_report import NoReport
+from rezovamy_runs.report.run_report import NoReport, Report
 from rezovamy_runs.report.stopped_run import as_stopped
 from rezovamy_runs.report.unfinished import with_events
 from rezovamy_runs.runner import rerun_plan
 from rezovamy_runs.runner.rerun_plan import NoPlan
-from rezovamy_runs.store import groups, run_folder
+from rezovamy_runs.store import as_one, groups, notes, run_folder
+from rezovamy_runs.store.as_one import Origin
+from rezovamy_runs.store.notes import WrongNotes
 
 SUMMARY = "write JUnit XML of a run, for a CI"
 TAKES_REST = False
@@ -58,7 +58,7 @@ def run(words: argparse.Namespace) -> int:
     options = options_of(Options, words)
     runs = run_folder.here()
     chosen = runs.find_all(options.run)
-    paths = chosen.paths if chosen.group else runs.with_reruns(chosen.paths[0])
+    paths = chosen.paths
     if chosen.group:
         for line in groups.missing_lines(chosen.group, map(runs.notes, paths)):
             say(f"rezovamy-runs: {line}")
@@ -98,42 +98,57 @@ def write(
     return junit_xml.BAD if fails and has_failed else 0
 
 
+@dataclasses.dataclass(frozen=True)
+class Recorded:
+    """A run of a bundle: where it comes from, and its reports, several of a stress run."""
+
+    id: str
+    started: float
+    origin: Origin
+    reports: Sequence[Report]
+
+
 def documents_of(
     bundles: Sequence[pathlib.Path], excused: Quarantine = quarantine.NOTHING
 ) -> list[Document]:
     """Return the documents of a bundle's runs, or the one of all runs of several bundles."""
-    parts = sorted((part for path in bundles for part in parts_of(path)), key=start_of)
-    reports = [part.report for part in parts]
-    if len(bundles) > 1 and parts:
-        reports = [joined_reports.joined(parts)]
+    found = sorted(map(recorded, bundles), key=lambda one: one.started)
+    reports = [report for one in found for report in one.reports]
+    if len(bundles) > 1 and reports:
+        parts = as_one.parts_of({one.id: one.origin for one in found})
+        reports = [joined_reports.joined({one.id: one.reports for one in found}, parts)]
     return [document(report, JunitWriter(), excused) for report in reports]
 
 
-def start_of(part: Part) -> int:
-    """Return the instant at which the run of a report started; one that isn't known is the last."""
-    start = part.report.timestamp
-    return joined_reports.nanoseconds(start) if start else sys.maxsize
-
-
-def parts_of(path: pathlib.Path) -> list[Part]:
-    """Return the reports of the runs of a bundle, with what its view says besides.
+def recorded(path: pathlib.Path) -> Recorded:
+    """Return the run of a bundle with its reports, and with what its view says besides.
 
     A run that was stopped has the tests that ended.
     """
     try:
         text = recorder.run_on_bundle(["report"], path).decode()
         run = bundle.read_run(path)
-        is_again = run.parent is not None
-        if text:
-            runs = [of_run(run)] if text.count("\n") == 1 else None
-            return [Part(report, is_again) for report in reports_of(text, runs)]
-        if not run.tests:
-            return []
-        run = dataclasses.replace(run, never_started=waiting(path, run))
-        stopped = with_events(stopped_run.report_of(run), as_stopped(of_run(run)))
-        return [Part(stopped, is_again)]
+        return Recorded(run.id, run.started, origin(path, run), reports_in(path, text, run))
     except (NoReport, NoEvents, NoPlan, UnicodeError) as error:
         raise Fault(f"the report of {path} can't be read: {error}; record the run again") from error
+
+
+def origin(path: pathlib.Path, run: Run) -> Origin:
+    """Return where the run of a bundle comes from; notes that can't be read say nothing of it."""
+    known = None
+    with contextlib.suppress(WrongNotes):
+        known = notes.read(notes.path_beside(path))
+    return as_one.origin_of(run, known)
+
+
+def reports_in(path: pathlib.Path, text: str, run: Run) -> list[Report]:
+    """Return the reports of a bundle, which the program printed unless the run was stopped."""
+    if text:
+        return reports_of(text, [of_run(run)] if text.count("\n") == 1 else None)
+    if not run.tests:
+        return []
+    run = dataclasses.replace(run, never_started=waiting(path, run))
+    return [with_events(stopped_run.report_of(run), as_stopped(of_run(run)))]
 
 
 def waiting(path: pathlib.Path, run: Run) -> tuple[TestName, ...]:

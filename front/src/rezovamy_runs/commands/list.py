@@ -8,11 +8,14 @@ from collections.abc import Mapping, Sequence
 
 from rezovamy_runs import formatting, instants
 from rezovamy_runs.command_line import matching, options_of, print_lines, print_out, say
-from rezovamy_runs.model import Status, Summary
+from rezovamy_runs.model import Counts, Status, Summary
 from rezovamy_runs.report import tables
-from rezovamy_runs.store import groups, notes, run_folder
+from rezovamy_runs.store import as_one, groups, joined_counts, notes, run_folder
+from rezovamy_runs.store.as_one import Parts
+from rezovamy_runs.store.joined_counts import Together
 from rezovamy_runs.store.live_folder import with_running
 from rezovamy_runs.store.notes import Part, RunNotes
+from rezovamy_runs.store.run_folder import Store
 
 SUMMARY = "list the recorded runs, the latest first"
 TAKES_REST = False
@@ -31,12 +34,12 @@ class Options:
 
 @dataclasses.dataclass(frozen=True)
 class Listed:
-    """A run, or the runs of a group, and what is known of it; None without notes."""
+    """A run, or several that count as one, and what is known of it; None without notes."""
 
     run: Summary
     notes: RunNotes | None
-    # Of a group, how many of its shards are there.
-    of_group: str | None = None
+    # Of several runs: how many shards are there, and how many reruns.
+    several: str | None = None
 
     @property
     def part(self) -> Part:
@@ -84,7 +87,7 @@ def run(words: argparse.Namespace) -> int:
     if options.json:
         print_out(tables.as_json([value_of(run, prefixes) for run in found]))
     elif found:
-        rows = [row_of(run, prefixes) for run in with_groups(found)]
+        rows = [row_of(run, prefixes) for run in as_they_count(runs, known, found)]
         print_lines(tables.table(list(rows[0]), [list(row.values()) for row in rows], NUMBERS))
     elif known:
         say(
@@ -95,38 +98,82 @@ def run(words: argparse.Namespace) -> int:
     return 0
 
 
-def with_groups(found: Sequence[Listed]) -> list[Listed]:
-    """Return the runs, those of one group as one where the latest of them is."""
+def as_they_count(runs: Store, known: Sequence[Listed], found: Sequence[Listed]) -> list[Listed]:
+    """Return the runs that were found, of all that are known, as they count.
+
+    The runs of a group are one, where the latest of them is. A run has what ran again of it too,
+    and each rerun that is in no group is there besides.
+    """
+    ended = {one.run.id: one for one in known if one.run.status is not Status.RUNNING}
+    origins = {name: as_one.origin_of(one.run, one.notes) for name, one in ended.items()}
+    heads = {name: as_one.head_of(name, origins.get) for name in ended}
     members: dict[str, list[Listed]] = {}
     for one in found:
-        members.setdefault(group_of(one), []).append(one)
-    return [as_one(group, runs) for group, runs in members.items()]
+        head = ended.get(heads.get(one.run.id, ""), one)
+        members.setdefault(group_of(head) or head.run.id, []).append(one)
+    several = {name: ones for name, ones in members.items() if len(ones) > 1 or group_of(ones[0])}
+    whole = joined(runs, several)
+    rows: dict[str, Listed] = {}
+    for one in found:
+        head = ended.get(heads.get(one.run.id, ""), one)
+        name = group_of(head) or one.run.id
+        rows.setdefault(name, whole.get(name, one))
+    return list(rows.values())
 
 
-def group_of(listed: Listed) -> str:
-    """Return the group of a run, or else its id, which no group has."""
-    return (listed.notes.group if listed.notes else None) or listed.run.id
+def group_of(listed: Listed) -> str | None:
+    """Return the group of a run, None if it is in none."""
+    return listed.notes.group if listed.notes else None
 
 
-def as_one(group: str, runs: Sequence[Listed]) -> Listed:
-    """Return the runs of a group as one."""
-    if group == runs[0].run.id:
-        return runs[0]
-    shards = {one.notes.shard for one in runs if one.notes and one.notes.shard}
+def joined(runs: Store, members: Mapping[str, Sequence[Listed]]) -> dict[str, Listed]:
+    """Return runs that count as one as one, by the names of these."""
+    together = {name: together_of(ones) for name, ones in members.items()}
+    counted = {name: of for name, of in together.items() if not is_split(members[name])}
+    counts = joined_counts.of_all(runs.folder, counted)
+    return {
+        name: as_one_row(name, members[name], of.parts, counts.get(name))
+        for name, of in together.items()
+    }
+
+
+def together_of(members: Sequence[Listed]) -> Together:
+    """Return runs with what they are to each other."""
+    found = [one.run for one in members]
+    return Together(found, groups.parts_of(found, [one.notes for one in members]))
+
+
+def is_split(members: Sequence[Listed]) -> bool:
+    """Tell whether no test is in two runs: each is a shard of its own, and none ran again."""
+    shards = [one.notes.shard for one in members if one.notes and one.notes.shard]
+    all_once = len(set(shards)) == len(members) and len({one.total for one in shards}) == 1
+    return all_once and not any(one.run.parent for one in members)
+
+
+def as_one_row(name: str, members: Sequence[Listed], parts: Parts, counts: Counts | None) -> Listed:
+    """Return runs that count as one as one; without counts they are sums."""
+    shards = {one.notes.shard for one in members if one.notes and one.notes.shard}
     total = max((shard.total for shard in shards), default=0)
-    part = f"{len(shards)} of {formatting.count(total, 'shard')}" if shards else ""
-    return Listed(groups.one_summary(group, [one.run for one in runs]), runs[0].notes, part)
+    reruns = sum(one.run.parent is not None for one in members if one.run.id != name)
+    texts = [
+        f"{len(shards)} of {formatting.count(total, 'shard')}" if shards else "",
+        formatting.count(reruns, "rerun") if reruns else "",
+    ]
+    run = groups.one_summary(name, [one.run for one in members], parts, counts)
+    head = next((one for one in members if one.run.id == name), members[0])
+    return Listed(run, head.notes, ", ".join(filter(None, texts)))
 
 
 def part_text(listed: Listed, prefixes: Mapping[str, str]) -> str:
     """Return in words how much of the tests a run has; nothing of a whole run."""
-    if listed.of_group is not None:
-        return listed.of_group
     parent, shard = listed.run.parent, listed.notes.shard if listed.notes else None
     if listed.part is Part.AGAIN and parent:
-        return f"again of {prefixes.get(parent, parent)}"
-    words = [f"shard {shard}" if shard else "", "" if listed.part is Part.WHOLE else listed.part]
-    return " ".join(filter(None, words))
+        own = f"again of {prefixes.get(parent, parent)}"
+    else:
+        own = "" if listed.part is Part.WHOLE else listed.part
+    if listed.several is None and shard:
+        own = f"shard {shard} {own}".rstrip()
+    return ", ".join(filter(None, [own, listed.several]))
 
 
 def row_of(listed: Listed, prefixes: Mapping[str, str]) -> dict[str, object]:

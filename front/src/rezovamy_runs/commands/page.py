@@ -80,22 +80,31 @@ def run(words: argparse.Namespace) -> int:
 def page_of(runs: Store, chosen: Chosen, options: Options) -> tuple[str, pathlib.Path]:
     """Return the page of a run, or of a group's runs, and where it goes if no file is named."""
     first = chosen.paths[0]
+    text = page_text(runs, chosen, options.most_output, options.source)
     if chosen.group is None:
-        return page_text(runs, first, options.most_output, options.source), beside(first)
-    name = f"group-{location.NOT_PLAIN.sub('_', chosen.group)}.html"
-    excused = quarantine.of(runs)
-    text = document.page_of_group(
-        chosen.group, chosen.paths, options.most_output, options.source, excused
-    )
-    return text, first.parent / name
+        return text, beside(first)
+    return text, first.parent / f"group-{location.NOT_PLAIN.sub('_', chosen.group)}.html"
 
 
 def page_text(
-    runs: Store, path: pathlib.Path, most_output: int = MOST_OUTPUT, source: str | None = None
+    runs: Store, chosen: Chosen, most_output: int = MOST_OUTPUT, source: str | None = None
 ) -> str:
-    """Return the page of the bundle at a path, with what history and quarantine say."""
-    past, excused = page_past.past_of(runs, path), quarantine.of(runs)
-    return document.page_of(path, most_output, source, past, excused)
+    """Return the page of chosen runs, with what history and quarantine say."""
+    paths = chosen.paths
+    past, excused = page_past.past_of(runs, paths[0]), quarantine.of(runs)
+    if chosen.group is None and len(paths) == 1:
+        return document.page_of(paths[0], most_output, source, past, excused)
+    return document.page_of_several(chosen.group, paths, most_output, source, past, excused)
+
+
+def write_beside(runs: Store, path: pathlib.Path) -> pathlib.Path:
+    """Write the page of a run and of its reruns beside its bundle, and return where it is.
+
+    The page of a rerun is that of the run with which the reruns began.
+    """
+    first = runs.first_in_row(path)
+    chosen = Chosen(tuple(runs.with_reruns(first)))
+    return written(page_text(runs, chosen), beside(first))
 
 
 def print_page(text: str) -> None:

@@ -52,7 +52,7 @@ def run(words: argparse.Namespace) -> int:
     options = options_of(Options, words)
     runs = run_folder.here()
     named_runs, test = chosen(runs, options.run, options.test)
-    found = read(runs, named_runs)
+    found, *of = read(runs, named_runs)
     paint = terminal.Paint(terminal.colours(sys.stdout))
     printer = Printer(paint, quarantine=quarantine.of(runs))
     if test is not None:
@@ -64,6 +64,7 @@ def run(words: argparse.Namespace) -> int:
     print_lines(
         [
             printer.head(found, runs.shortest(found.id)),
+            *(printer.rerun(one, runs.shortest(one.id)) for one in of[1:] if one.parent),
             *printer.scripts(found.scripts, options.all),
             *(printer.tests(found.tests) if options.all else printer.failures(found.tests)),
             *printer.never_started(found),
@@ -82,15 +83,19 @@ def chosen(runs: Store, first: str | None, second: str | None) -> tuple[Chosen, 
     return runs.find_all(LAST), first
 
 
-def read(runs: Store, chosen_runs: Chosen) -> Run:
-    """Return the run of a bundle, or that of a group; say what of a group isn't as it should be."""
+def read(runs: Store, chosen_runs: Chosen) -> list[Run]:
+    """Return the runs of some bundles that count as one, after the one of them all.
+
+    Say what of a group isn't as it should be.
+    """
     found = [bundle.read_run(path) for path in chosen_runs.paths]
-    group = chosen_runs.group
-    if group is None:
-        return found[0]
-    for line in groups.doubts(group, found, map(runs.notes, chosen_runs.paths)):
+    if len(found) == 1 and chosen_runs.group is None:
+        return found
+    known = list(map(runs.notes, chosen_runs.paths))
+    for line in groups.doubts(chosen_runs.group, found, known) if chosen_runs.group else ():
         say(f"rezovamy-runs: {line}")
-    return groups.one_run(group, found)
+    parts = groups.parts_of(found, known)
+    return [groups.one_run(chosen_runs.group or found[0].id, found, parts), *found]
 
 
 def named(run: Run, word: str) -> list[Test]:

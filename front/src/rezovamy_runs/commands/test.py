@@ -150,7 +150,8 @@ def run(words: argparse.Namespace) -> int:
 def opened_page(opens: bool, runs: Store, run_id: str, status: int) -> int:
     """Open the page of a run if that is wanted, and return the status that the run has."""
     if opens:
-        page_opening.open_page(page_command.beside(runs.path_of(run_id)))
+        first = runs.first_in_row(runs.path_of(run_id))
+        page_opening.open_page(page_command.beside(first))
     return status
 
 
@@ -273,10 +274,7 @@ class Outputs:
     def _write_more(self, path: pathlib.Path) -> None:
         """Write what else is asked for of a run that was recorded, and print where it is."""
         if self.page:
-            page = page_command.written(
-                page_command.page_text(self.runs, path), page_command.beside(path)
-            )
-            print_out(f"{page}\n")
+            print_out(f"{page_command.write_beside(self.runs, path)}\n")
         if self.junit:
             paths = [path]
             if self.notes.parent:

@@ -8,6 +8,8 @@ from collections.abc import Iterable, Mapping, Sequence
 from rezovamy_runs.history.outcomes import Outcome, joined, worse
 from rezovamy_runs.history.rows import RunRow
 from rezovamy_runs.model import Status, TestName
+from rezovamy_runs.store import as_one
+from rezovamy_runs.store.as_one import Origin
 from rezovamy_runs.store.notes import Part
 
 COMPLETED = (Status.COMPLETED, Status.STRESS_COMPLETED)
@@ -72,9 +74,10 @@ def joined_runs(rows: Iterable[RunRow]) -> list[JoinedRun]:
     """Return runs as they count, in the order in which they started."""
     ordered = sorted(rows, key=lambda row: (row.started, row.id))
     by_id = {row.id: row for row in ordered}
+    origin_of = {row.id: origin(row) for row in ordered}.get
     found: dict[tuple[str, str], list[RunRow]] = {}
     for row in ordered:
-        head = head_of(row, by_id)
+        head = by_id[as_one.head_of(row.id, origin_of)]
         name = ("run", head.id) if head.group_name is None else ("group", head.group_name)
         found.setdefault(name, []).append(row)
     joined_now = [
@@ -84,19 +87,9 @@ def joined_runs(rows: Iterable[RunRow]) -> list[JoinedRun]:
     return sorted(joined_now, key=lambda run: (run.started, run.id))
 
 
-def head_of(row: RunRow, by_id: Mapping[str, RunRow]) -> RunRow:
-    """Return the run of which a run ran something again, over several steps; or the run itself.
-
-    What ran other sources is a run of its own.
-    """
-    seen = {row.id}
-    while row.parent and row.parent not in seen:
-        parent = by_id.get(row.parent)
-        if parent is None or (parent.commit_id, parent.dirty) != (row.commit_id, row.dirty):
-            break
-        seen.add(parent.id)
-        row = parent
-    return row
+def origin(row: RunRow) -> Origin:
+    """Return where a run comes from."""
+    return Origin(row.parent, row.commit_id, bool(row.dirty), row.part == Part.AGAIN)
 
 
 def latest(
@@ -112,22 +105,19 @@ def latest(
 def outcomes_by_run(
     runs: Sequence[JoinedRun], told: Iterable[Told]
 ) -> list[dict[TestName, Outcome]]:
-    """Return the outcomes of the tests of each run.
-
-    What ran again comes after what ran before. Of a test that several shards ran, the worst counts.
-    """
-    by_run: dict[int, list[Told]] = {}
+    """Return the outcomes of the tests of each run."""
+    by_run: dict[int, dict[TestName, Outcome]] = {}
     for one in told:
-        by_run.setdefault(one.run, []).append(one)
+        by_run.setdefault(one.run, {})[one.test] = one.outcome
     return [merged(run, by_run) for run in runs]
 
 
-def merged(run: JoinedRun, by_run: Mapping[int, Sequence[Told]]) -> dict[TestName, Outcome]:
+def merged(
+    run: JoinedRun, by_run: Mapping[int, dict[TestName, Outcome]]
+) -> dict[TestName, Outcome]:
     """Return the outcomes of the tests of runs that count as one."""
-    found: dict[TestName, Outcome] = {}
-    for row in run.rows:
-        merge = joined if row.part == Part.AGAIN else worse
-        for one in by_run.get(row.run, ()):
-            before = found.get(one.test)
-            found[one.test] = merge(before, one.outcome) if before else one.outcome
-    return found
+    if len(run.rows) == 1:
+        return by_run.get(run.first.run, {})
+    parts = as_one.parts_of({row.id: origin(row) for row in run.rows})
+    results = {row.id: by_run.get(row.run, {}) for row in run.rows}
+    return as_one.merged(parts, results, joined, worse)

@@ -8,19 +8,8 @@ from collections.abc import Iterable, Mapping, Sequence
 
 from rezovamy_runs import formatting
 from rezovamy_runs.model import Run, Test, TestName, Verdict
+from rezovamy_runs.store import as_one
 
-# Of the verdicts that a test has in the sub-runs of one run, the first of these counts.
-WORST_FIRST = (
-    Verdict.FAIL,
-    Verdict.UNFINISHED,
-    Verdict.FLAKY,
-    Verdict.PASS,
-    Verdict.SKIP,
-)
-GOOD = (Verdict.PASS, Verdict.FLAKY)
-# Of a test that was skipped, or ran when its run was broken off, nobody knows whether it would
-# have passed.
-UNKNOWN = (Verdict.SKIP, Verdict.UNFINISHED)
 # With fewer times nothing is known of how much they differ usually.
 FEWEST_TIMES = 3
 # A difference below this says nothing, in seconds.
@@ -50,7 +39,7 @@ class Outcome:
     @property
     def is_good(self) -> bool:
         """Tell whether the test passed, at its first attempt or a later one."""
-        return self.verdict in GOOD
+        return self.verdict in as_one.GOOD
 
     @property
     def has_failed(self) -> bool:
@@ -89,33 +78,26 @@ def message_of(test: Test) -> str | None:
     return None
 
 
-def worse(one: Outcome, other: Outcome) -> Outcome:
+def worse(earlier: Outcome, later: Outcome) -> Outcome:
     """Return the outcome of a test that ran twice in a run: the worse verdict, the longer time."""
-    first = min(one, other, key=lambda outcome: WORST_FIRST.index(outcome.verdict))
+    verdict, is_later = as_one.beside(earlier.verdict, later.verdict)
     return Outcome(
-        first.verdict,
-        max(one.seconds, other.seconds),
-        max(one.attempts, other.attempts),
-        first.message,
+        verdict,
+        max(earlier.seconds, later.seconds),
+        max(earlier.attempts, later.attempts),
+        (later if is_later else earlier).message,
     )
 
 
 def joined(earlier: Outcome, later: Outcome) -> Outcome:
-    """Return the outcome of a test of a run, of which a later run tried it again.
-
-    What failed and then passed is flaky. What isn't known of the later run changes nothing.
-    """
-    if later.verdict in UNKNOWN:
+    """Return the outcome of a test of a run, of which a later run tried it again."""
+    verdict, is_later = as_one.again(earlier.verdict, later.verdict)
+    if not is_later:
         return earlier
-    if earlier.verdict in UNKNOWN:
+    if earlier.verdict in as_one.UNKNOWN:
         return later
-    has_differed = earlier.verdict is Verdict.FLAKY or earlier.has_failed and later.is_good
-    return Outcome(
-        Verdict.FLAKY if has_differed and later.is_good else later.verdict,
-        later.seconds,
-        earlier.attempts + later.attempts,
-        later.message or earlier.message,
-    )
+    attempts = earlier.attempts + later.attempts
+    return Outcome(verdict, later.seconds, attempts, later.message or earlier.message)
 
 
 @dataclasses.dataclass(frozen=True)

@@ -85,8 +85,7 @@ def outcomes_of(path: pathlib.Path, stamp: str = "") -> Recorded:
 def row_of(run: Run, known: RunNotes | None, stamp: str = "") -> RunRow:
     """Return the row of a run by what it and its notes say."""
     noted = known or RunNotes()
-    parent = run.parent or noted.parent
-    part = Part.AGAIN if known is None and parent else noted.part
+    part = Part.AGAIN if known is None and run.parent else noted.part
     counts = run.counts
     return RunRow(
         key_of_run(run.id),
@@ -109,7 +108,7 @@ def row_of(run: Run, known: RunNotes | None, stamp: str = "") -> RunRow:
         part.value,
         plain(noted.group),
         str(noted.shard) if noted.shard else None,
-        parent,
+        run.parent,
     )
 
 

@@ -7,8 +7,9 @@ import statistics
 from collections.abc import Mapping, Sequence
 
 from rezovamy_runs.history.joining import JoinedRun
-from rezovamy_runs.history.outcomes import UNKNOWN, Outcome
+from rezovamy_runs.history.outcomes import Outcome
 from rezovamy_runs.model import TestName, Verdict
+from rezovamy_runs.store.as_one import UNKNOWN
 
 # What stands for a run, by how the test ended in it.
 MARKS = {

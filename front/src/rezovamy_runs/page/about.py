@@ -13,6 +13,7 @@ from typing import NotRequired, TypedDict
 
 from rezovamy_runs import formatting
 from rezovamy_runs.faults.fault import Fault
+from rezovamy_runs.model import Run
 from rezovamy_runs.runner.rerun_plan import runs_whole, target_words
 from rezovamy_runs.store.notes import Part, RunNotes
 from rezovamy_runs.streams.targets import own_names
@@ -112,6 +113,12 @@ def facts_of(notes: RunNotes | None) -> list[PageFact]:
         *(fact(name, text) for name, text in notes.free.items() if name != SOURCE),
     ]
     return [one for one in facts if one["text"]]
+
+
+def reruns_facts(runs: Sequence[Run]) -> list[PageFact]:
+    """Return in which of some runs something ran again, nothing if none is a rerun."""
+    told = [f"in run {run.id}, {formatting.moment(run.started)}" for run in runs if run.parent]
+    return [fact("Ran again", "; ".join(told))] if told else []
 
 
 def source_pattern(given: str | None, notes: RunNotes | None) -> str | None:

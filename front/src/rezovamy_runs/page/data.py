@@ -359,10 +359,13 @@ def quarantined(
     tests: Sequence[PageTest], names: Sequence[TestName], excused: Quarantine
 ) -> list[PageTest]:
     """Return tests with these names; those in quarantine say until when and why."""
-    found = []
+    found: list[PageTest] = []
     for test, name in zip(tests, names, strict=True):
         entry = excused.entry_of(name)
-        found.append({**test, "quarantine": quarantine_text(entry)} if entry else test)
+        if entry:
+            test = test.copy()
+            test["quarantine"] = quarantine_text(entry)
+        found.append(test)
     return found
 
 

@@ -13,12 +13,12 @@ from collections.abc import Sequence
 
 from rezovamy_runs import formatting, terminal
 from rezovamy_runs.bundles import bundle
-from rezovamy_runs.page.about import group_notes, source_pattern
+from rezovamy_runs.page.about import group_notes, reruns_facts, source_pattern
 from rezovamy_runs.page.bands import band_name, banded
 from rezovamy_runs.page.data import MOST_OUTPUT, Outputs, PageData, page_data
 from rezovamy_runs.page.past import Past
 from rezovamy_runs.quarantine import NOTHING, Quarantine
-from rezovamy_runs.store import groups
+from rezovamy_runs.store import as_one, groups
 from rezovamy_runs.store import notes as run_notes
 
 PARTS = pathlib.Path(__file__).resolve().parent / "assets"
@@ -171,24 +171,33 @@ def page_of(
     return page_html(page_data(run, Outputs(most_output), notes, pattern, past, excused))
 
 
-def page_of_group(
-    name: str,
+def page_of_several(
+    name: str | None,
     paths: Sequence[pathlib.Path],
     most_output: int = MOST_OUTPUT,
     source: str | None = None,
+    past: Past | None = None,
     excused: Quarantine = NOTHING,
 ) -> str:
-    """Return the page of the runs of a group as one, each in a band of the timeline."""
-    runs = sorted(map(bundle.read_run, paths), key=lambda run: (run.started, run.id))
-    notes = [run_notes.read(run_notes.path_beside(run.bundle)) for run in runs]
+    """Return the page of runs that count as one, each in a band of the timeline.
+
+    They are the runs of the group with this name, or a run and what ran again of it.
+    """
+    read = {run.id: run for run in map(bundle.read_run, paths)}
+    notes = [run_notes.read(run_notes.path_beside(run.bundle)) for run in read.values()]
+    parts = groups.parts_of([*read.values()], notes)
+    notes_by_run = dict(zip(read, notes))
+    runs = [read[run_id] for run_id in as_one.ordered(parts)]
+    notes = [notes_by_run[run.id] for run in runs]
     moved, bands = banded(runs, list(map(band_name, runs, notes)))
-    known = group_notes([one for one in notes if one])
+    known = notes[0] if name is None else group_notes([one for one in notes if one])
     pattern = source_pattern(source, known)
-    whole = groups.one_run(name, moved)
-    value = page_data(whole, Outputs(most_output), known, pattern, excused=excused)
+    whole = groups.one_run(name or runs[0].id, moved, parts)
+    value = page_data(whole, Outputs(most_output), known, pattern, past, excused)
     value["bands"] = bands
-    doubts = (f"{line[0].upper()}{line[1:]}." for line in groups.doubts(name, runs, notes))
-    value["notes"] = [*doubts, *value["notes"]]
+    value["facts"] += reruns_facts(runs[1:])
+    doubts = groups.doubts(name, runs, notes) if name is not None else []
+    value["notes"] = [*(f"{line[0].upper()}{line[1:]}." for line in doubts), *value["notes"]]
     return page_html(value)
 
 

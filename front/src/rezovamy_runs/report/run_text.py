@@ -70,6 +70,10 @@ class Printer:
         started = formatting.moment(run.started)
         return f"{self.paint('bold', f'run {prefix}')} of {started}, profile {profile}{ran}"
 
+    def rerun(self, run: Run, prefix: str) -> str:
+        """Return a line that says which run ran something again of the one that is shown."""
+        return f"again in {self.paint('bold', f'run {prefix}')} of {formatting.moment(run.started)}"
+
     def tests(self, tests: Iterable[Test]) -> Iterator[str]:
         """Return all tests in the order in which they ended."""
         for test in sorted(tests, key=ended):

@@ -1,62 +1,89 @@
-"""Makes one run of the runs of a group, as of the shards of a job."""
+"""Makes one run of runs that count as one: the runs of a group, and a run with its reruns."""
 
 from __future__ import annotations
 
 import collections
 import dataclasses
-from collections.abc import Iterable, Sequence
+from collections.abc import Callable, Iterable, Mapping, Sequence
 
 from rezovamy_runs.model import (
     Attempt,
     Counts,
     Run,
+    Slice,
     Status,
     Summary,
     Test,
     TestName,
     Verdict,
 )
+from rezovamy_runs.store import as_one
+from rezovamy_runs.store.as_one import Counted, Parts
 from rezovamy_runs.store.notes import RunNotes, Shard
 
+# A test, in a stress run of one sub-run.
+Key = tuple[TestName, int | None]
 
-def one_run(name: str, runs: Sequence[Run]) -> Run:
-    """Return the runs of a group as one run with the group's name, in the order of their starts.
 
-    A test that several of them ran has the attempts of all.
+def parts_of(runs: Sequence[Summary], known: Sequence[RunNotes | None]) -> Parts:
+    """Return which runs ran again something of others, by their notes."""
+    pairs = sorted(zip(runs, known, strict=True), key=lambda pair: pair[0].started)
+    return as_one.parts_of({run.id: as_one.origin_of(run, notes) for run, notes in pairs})
+
+
+def one_run(name: str, runs: Sequence[Run], parts: Parts) -> Run:
+    """Return runs that count as one as one run with a name.
+
+    A test that several of them ran has the attempts of all, the one that counts at the end.
     """
-    runs = sorted(runs, key=lambda run: run.started)
-    found: dict[tuple[TestName, int | None], list[Test]] = {}
-    for run in runs:
-        for test in run.tests:
-            found.setdefault((test.key, test.stress), []).append(test)
-    tests = tuple(map(one_test, found.values()))
+    of = {run.id: run for run in runs}
+    runs = [of[run_id] for run_id in as_one.ordered(parts)]
+    tests = tuple(tests_of(runs, parts).values())
     seen = {test.key for test in tests}
     waiting = dict.fromkeys(one for run in runs for one in run.never_started if one not in seen)
     unnamed = sum(run.unnamed for run in runs)
     counts = counts_of(tests)
     counts = dataclasses.replace(counts, unseen=counts.unseen + len(waiting) + unnamed)
-    summary = dataclasses.replace(one_summary(name, runs), counts=counts)
     return Run(
-        **vars(summary),
-        extent=(min(run.extent[0] for run in runs), max(run.extent[1] for run in runs)),
+        **vars(one_summary(name, runs, parts, counts)),
+        extent=extent_of(runs),
         tests=tests,
         scripts=tuple(script for run in runs for script in run.scripts),
+        # A pause of a run beside others isn't one of all.
+        pauses=() if len(parts.chains) > 1 else tuple(one for run in runs for one in run.pauses),
         cancellations=tuple(one for run in runs for one in run.cancellations),
         never_started=tuple(waiting),
         unnamed=unnamed,
     )
 
 
-def one_test(tests: Sequence[Test]) -> Test:
-    """Return a test that runs of a group have, with its attempts in all of them."""
-    ran = [test for test in tests if test.attempts]
-    if len(ran) < 2:
-        return (ran or tests)[0]
-    attempts = [attempt for test in ran for attempt in test.attempts]
-    has_failed = any(test.verdict in (Verdict.FAIL, Verdict.FLAKY) for test in ran)
-    is_flaky = has_failed and ran[-1].verdict is Verdict.PASS
-    verdict = Verdict.FLAKY if is_flaky else ran[-1].verdict
-    return dataclasses.replace(ran[-1], verdict=verdict, attempts=numbered(attempts))
+def extent_of(runs: Iterable[Run]) -> Slice:
+    """Return the instants of the first and the last event of runs, equal ones if there is none."""
+    # A run without an event says nothing.
+    known = [run.extent for run in runs if any(run.extent)]
+    return min((one for one, _ in known), default=0), max((one for _, one in known), default=0)
+
+
+def tests_of(runs: Sequence[Run], parts: Parts) -> Mapping[Key, Test]:
+    """Return each test of runs that count as one."""
+    results = {run.id: {(test.key, test.stress): test for test in run.tests} for run in runs}
+    return as_one.merged(parts, results, joining_by(as_one.again), joining_by(as_one.beside))
+
+
+def joining_by(
+    rule: Callable[[Verdict, Verdict], Counted],
+) -> Callable[[Test, Test], Test]:
+    """Return what makes one test of two by a rule for their verdicts."""
+
+    def join(earlier: Test, later: Test) -> Test:
+        """Return one test with the attempts of both."""
+        verdict, is_later = rule(earlier.verdict, later.verdict)
+        last = later if is_later else earlier
+        first = earlier if is_later else later
+        attempts = numbered([*first.attempts, *last.attempts])
+        return dataclasses.replace(last, verdict=verdict, attempts=attempts)
+
+    return join
 
 
 def numbered(attempts: Sequence[Attempt]) -> tuple[Attempt, ...]:
@@ -68,26 +95,44 @@ def numbered(attempts: Sequence[Attempt]) -> tuple[Attempt, ...]:
     )
 
 
-def one_summary(name: str, runs: Sequence[Summary]) -> Summary:
-    """Return the summaries of a group's runs as one; its counts are their sums."""
-    runs = sorted(runs, key=lambda run: run.started)
-    first = runs[0]
-    codes = [run.exit_code for run in runs if run.exit_code is not None]
-    ends = [run.started + run.elapsed for run in runs]
-    statuses = [run.status for run in runs if run.status is not Status.COMPLETED]
+def one_summary(
+    name: str, runs: Sequence[Summary], parts: Parts, counts: Counts | None = None
+) -> Summary:
+    """Return the summaries of runs that count as one as one.
+
+    Its counts are their sums if they aren't known.
+    """
+    of = {run.id: run for run in runs}
+    heads = [of[chain[0]] for chain in parts.chains] or list(runs)
+    first = min(heads, key=lambda run: run.started)
+    counts = counts or sum_of(run.counts for run in runs)
+    deciding = deciding_of(of, parts, counts)
+    codes = [run.exit_code for run in deciding if run.exit_code is not None]
+    statuses = [run.status for run in deciding if run.status is not Status.COMPLETED]
+    reruns = [run for run in runs if run not in heads]
+    span = max(run.started + run.elapsed for run in heads) - first.started
     return Summary(
         id=name,
         bundle=first.bundle,
         size=sum(run.size for run in runs),
         profile=first.profile,
         started=first.started,
-        elapsed=max(ends) - first.started,
+        # How long nobody ran anything again, doesn't count.
+        elapsed=span + sum(run.elapsed for run in reruns),
         status=next(iter(statuses), Status.COMPLETED),
         exit_code=max(codes, default=None),
-        counts=sum_of(run.counts for run in runs),
+        counts=counts,
         nextest_version=first.nextest_version,
         cli_args=first.cli_args,
+        parent=first.parent,
     )
+
+
+def deciding_of(of: Mapping[str, Summary], parts: Parts, counts: Counts) -> list[Summary]:
+    """Return the runs that say how the whole ended: all, or the last reruns if all passed there."""
+    if counts.failed or counts.unseen:
+        return list(of.values())
+    return [of[chain[-1]] for chain in parts.chains] or list(of.values())
 
 
 def sum_of(counts: Iterable[Counts]) -> Counts:

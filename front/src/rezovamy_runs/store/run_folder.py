@@ -17,7 +17,8 @@ from rezovamy_runs.bundles import bundle_file
 from rezovamy_runs.command_line import say
 from rezovamy_runs.faults.fault import Fault
 from rezovamy_runs.model import Summary
-from rezovamy_runs.store import live_folder, location, notes, summaries, whole_file
+from rezovamy_runs.store import as_one, live_folder, location, notes, summaries, whole_file
+from rezovamy_runs.store.as_one import Origin, OriginOf
 from rezovamy_runs.store.live_folder import RUN_ID, LiveFolder, settle_all
 from rezovamy_runs.store.notes import Part, RunNotes, Shard, WrongNotes
 
@@ -34,7 +35,10 @@ SHORTEST_PREFIX = 4
 
 @dataclasses.dataclass(frozen=True)
 class Chosen:
-    """The bundles that a word names; those of a group with its name."""
+    """The bundles of the runs that a word names as one; those of a group with its name.
+
+    The first of others is the run, and what ran again of it follows.
+    """
 
     paths: tuple[pathlib.Path, ...]
     group: str | None = None
@@ -152,15 +156,17 @@ class Store:
         return [path for path, notes in known if notes and name and notes.group == name]
 
     def find_all(self, word: str) -> Chosen:
-        """Return the runs of the group that a word names, or else the one run.
+        """Return the runs of the group that a word names, or else the run with its reruns.
 
         `last` is a group if that has all its shards, and started after the last whole run.
         """
         if not self.is_somewhere() or is_bundle(word):
-            return Chosen((self.find(word),))
+            return Chosen(tuple(self.with_reruns(self.find(word))))
         group = self._last_group() if word == LAST else word
         found = self.of_group(group) if group else []
-        return Chosen(tuple(found), group) if found else Chosen((self.find(word),))
+        if group and found:
+            return Chosen(tuple(found), group)
+        return Chosen(tuple(self.with_reruns(self.find(word))))
 
     def _last_group(self) -> str | None:
         """Return the last group with all its shards, None if a whole run came after it."""
@@ -229,30 +235,32 @@ class Store:
 
         What ran other sources isn't among them.
         """
-        if not self.is_somewhere() or self.path_of(bundle_file.stem_of(path.name)) != path:
+        name = bundle_file.stem_of(path.name)
+        if not self.is_somewhere() or self.path_of(name) != path:
             return [path]
-        sources, row = self._sources(path), {bundle_file.stem_of(path.name): path}
+        origin_of, row = self._origins(), {name: path}
         for run in reversed(self.readable()):
-            if run.parent in row and self._sources(run.bundle) == sources:
-                row[stem_of(run)] = run.bundle
+            if run.parent in row and as_one.parent_of(stem_of(run), origin_of) in row:
+                row.setdefault(stem_of(run), run.bundle)
         return list(row.values())
 
     def first_in_row(self, path: pathlib.Path) -> pathlib.Path:
         """Return the bundle of the run with which a row of reruns of the same sources began."""
-        sources, known = self._sources(path), {stem_of(run): run for run in self.readable()}
-        seen, run = set[str](), known.get(bundle_file.stem_of(path.name))
-        while run and run.parent in known and run.parent not in seen:
-            parent = known[run.parent]
-            if self._sources(parent.bundle) != sources:
-                break
-            seen.add(stem_of(run))
-            run = parent
-        return run.bundle if run else path
+        name = bundle_file.stem_of(path.name)
+        head = as_one.head_of(name, self._origins())
+        return path if head == name else self.path_of(head)
 
-    def _sources(self, path: pathlib.Path) -> tuple[str | None, bool | None]:
-        """Return what is known of the sources that a run ran."""
-        known = self.notes(path) or RunNotes()
-        return known.commit, known.dirty
+    def _origins(self) -> OriginOf:
+        """Return what tells where a readable run comes from, by the name of its bundle."""
+        known = {stem_of(run): run for run in self.readable()}
+
+        @functools.cache
+        def origin_of(name: str) -> Origin | None:
+            """Look into the notes of a run."""
+            run = known.get(name)
+            return as_one.origin_of(run, self.notes(run.bundle)) if run else None
+
+        return origin_of
 
     def prefixes(self) -> dict[str, str]:
         """Return for each id its shortest beginning of four letters or more that no other has."""
