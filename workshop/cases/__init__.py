@@ -1,5 +1,5 @@
 """Cases for the built program, a module for each idea; `python3 -m workshop.try_cases` runs them.
-docs/CONTRIBUTING.md lists the modules.
+Each module begins with what it shows.
 
 `case`, `texts`, `made`, `events`, `histories`, `whole_bundles`, `line_cases` and `outlines` have no
 cases: they hold what several of the others need.
