@@ -34,10 +34,10 @@ def test_a_run_is_known_by_its_notes() -> None:
         {"name": "CI job", "text": "GitHub tests", "link": "https://ci.example/1", "brief": True},
         {"name": "Group", "text": "pr-7, shard 2/4", "brief": True},
         {"name": "Host", "text": "builder", "brief": True},
-        {"name": "Command", "text": "rezovamy-runs test 'a b'"},
+        {"name": "Command", "text": "rezovamy-runs test 'a b'", "brief": True},
         {"name": "Part", "text": "some of the tests, as the words say"},
-        {"name": "Build", "text": "1m 05s"},
-        {"name": "Rust", "text": "1.92.0"},
+        {"name": "Build", "text": "1m 05s", "brief": True},
+        {"name": "Rust", "text": "1.92.0", "brief": True},
         {"name": "mood", "text": "good"},
     ]
 

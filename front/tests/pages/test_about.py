@@ -34,6 +34,9 @@ def test_the_top_says_what_run_it_is(page: Page) -> None:
         "CI job: GitHub tests",
         "Group: pr-7, shard 2/4",
         "Host: builder",
+        "Command: rezovamy-runs test 'a b'",
+        "Build: 1m 05s",
+        "Rust: 1.92.0",
     ]
     assert page.member("#known-by a", "href") == "https://ci.example/1"
     about = page.inner(".about")
@@ -41,6 +44,9 @@ def test_the_top_says_what_run_it_is(page: Page) -> None:
         assert text in about
     page.open(SUMS, wide=420)
     assert page.fits(420)
+    # A narrow window has these below alone.
+    assert page.inner("#known-by").endswith("builder")
+    assert "rezovamy-runs test 'a b'" in page.inner(".about")
 
 
 def test_a_run_without_notes_has_nothing_more_at_the_top(page: Page) -> None:

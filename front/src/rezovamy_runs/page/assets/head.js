@@ -36,10 +36,15 @@ function draw_facts() {
   document.getElementById("known-by").replaceChildren(...brief.map(brief_fact));
 }
 
-// What the run is known by, each with its name for a screen reader and in its tip.
+// A narrow window has room for these below alone.
+const WIDE_FACTS = ["Command", "Build", "Rust"];
+
+// What the run is known by, each with its name for a screen reader and in its tip. A length of time
+// needs its name to be understood.
 function brief_fact({ name, text, link }) {
   const told = link ? web_link(link, safe_nodes(text)) : element("span", "", safe_nodes(text));
-  const made = element("span", "", element("span", "unseen", `${name}: `), told);
+  const named = element("span", name === "Build" ? "" : "unseen", `${name}: `);
+  const made = element("span", WIDE_FACTS.includes(name) ? "only-wide" : "", named, told);
   made.title = `${name}: ${shown(text)}`;
   return made;
 }
