@@ -197,10 +197,11 @@ module _ {S : Type 0} (left : S → Option (List ℕ)) where
 
   -- the text ends
   pub text_ends : (total : ℕ) (text : List ℕ) (first old new end : LineReading S) (some : Bool)
-      → new.line ≡ old.line → new.number ≡ first.number → end ≡ record new { number = end.number }
+      → new.line ≡ old.line → new.number ≡ first.number → new.given ≤ first.limit
+      → end ≡ record new { number = end.number }
       → (is : IsIn total text old) → (is.rest ≡ []) × IsLeft left total [] new → Ends new end some
       → ReadsLine left total text first end (Ok some)
-  text_ends total text first old new end true same number kept is none ends =
+  text_ends total text first old new end true same number within kept is none ends =
       let line = ap (λ (r : LineReading S). r.line) kept ∙ same in (
         [],
         last_line total text old is is.rest none.0 is.begun
@@ -210,10 +211,11 @@ module _ {S : Type 0} (left : S → Option (List ℕ)) where
         subst (IsLeft left total []) (sym kept)
             (record { known = none.1.known; counted = none.1.counted }),
       )
-  text_ends total text first old new end false same number kept is none ends = (
+  text_ends total text first old new end false same number within kept is none ends = (
     is.begun ∙ ap (λ l. l ++ is.rest) (sym same ∙ ends.0) ∙ none.0,
     subst (IsLeft left total []) (sym kept)
         (record { known = none.1.known; counted = none.1.counted }),
+    let counted = none.1.counted in omega (arith, counted, within),
   )
 
 -- what an answer says where it is known

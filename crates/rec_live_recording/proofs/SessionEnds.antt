@@ -1,12 +1,14 @@
 -- What a recording of a session ends with, by what was recorded of its lines.
 use Rattle.std.proofs.Common.{◌≡◌, ℕ, ◌≤◌, List, Option, Some, None, Result, Ok, Err, IfOk, IfErr}
-use Rattle.std.proofs.Common.{[], OnOk, false, sym, subst, ◌⊎◌, inl, inr, arith}
+use Rattle.std.proofs.Common.{◌<◌, ◌^◌, [], OnOk, false, length, sym, ap, subst, ◌∙◌, ◌⊎◌, inl, inr}
+use Rattle.std.proofs.Common.{arith}
 use Rattle.std.specs.Io.KnownBytes.{Appends}
 use Rattle.rec_container.proofs.Results.{on_ok_both}
 use Rattle.rec_container.specs.Causes.{Rose}
-use Rattle.rec_container.specs.Container.{AreFrom, ending}
+use Rattle.rec_container.specs.Container.{AreFrom, Entry, ending, spell}
 use Rattle.rec_format.specs.declared.head.SessionHead.{SessionHead}
 use Rattle.rec_codec.specs.Lines.{NumberedLine}
+use Rattle.rec_store.specs.Bundle.{run_store}
 use Rattle.rec_store.specs.Recording.{Recording, has_failed}
 use Rattle.rec_store.specs.Saved.{HasAccepted}
 use Rattle.rec_errors.specs.declared.export_error.RecordExportError.{RecordExportError}
@@ -20,8 +22,8 @@ use Rattle.rec_live_recording.specs.declared.errors.LiveError.{LiveError}
 use Rattle.rec_live_recording.specs.Finished.{HasRun, IsFinished}
 use Rattle.rec_live_recording.specs.Live.{RecordsAll}
 use Rattle.rec_live_recording.specs.Recorder.{HasRecorded, RecordsLines}
-use Rattle.rec_live_recording.specs.Refusals.{ComesOf, IsRefused, Overflows, SessionOverflows}
-use Rattle.rec_live_recording.specs.Refusals.{recording_refusal}
+use Rattle.rec_live_recording.specs.Refusals.{ComesOf, IsRecordable, IsRefused, Overflows}
+use Rattle.rec_live_recording.specs.Refusals.{SessionOverflows, recording_refusal}
 use Rattle.rec_live_recording.specs.Session.{begun_manifest, events_after_head}
 
 module _ {S L N : Type 0} (faults : S → ℕ) (log_faults : L → ℕ) (number : N → List ℕ → ℕ)
@@ -59,15 +61,15 @@ module _ {S L N : Type 0} (faults : S → ℕ) (log_faults : L → ℕ) (number 
       e h
 
   -- or what stands where they were
-  pub session_whole : (before manifest : Option (List ℕ))
+  pub session_whole : (before manifest : Option (List ℕ)) (limit' : ℕ) → limit ≡ limit'
       → Appends before manifest (begun_manifest head) → (r : Result ℕ LiveError)
       → RecordsLines faults log_faults number namer m head failed limit total after old new out'
       out'' r
       → OnOk r ((recording_refusal (number namer) m session ≡ None)
       × HasRun number namer m session (events_after_head session) before manifest new
-      × (faults first.store.sink ≤ faults new.store.sink))
-  session_whole before manifest taken (Err e) h = tt
-  session_whole before manifest taken (Ok count) h =
+      × (faults first.store.sink ≤ faults new.store.sink) × (total ≤ limit'))
+  session_whole before manifest limit' same taken (Err e) h = tt
+  session_whole before manifest limit' same taken (Ok count) h =
       let later = h.2.store in (
         lines_valid (number namer) m session head has after is h.0,
         record {
@@ -79,6 +81,7 @@ module _ {S L N : Type 0} (faults : S → ℕ) (log_faults : L → ℕ) (number 
               (lines_events (number namer) m session head has after is) h.1;
         },
         omega (arith, store, later),
+        subst (λ n. total ≤ n) same h.3,
       )
 
 -- ---- the end of the store
@@ -93,7 +96,7 @@ end_whole P Q R recorded (Err e) f is p q = tt
 module _ {S L N O : Type 0} (taken : S → Option (List ℕ)) (log_taken : L → Option (List ℕ))
     (out_taken : O → Option (List ℕ)) (number : N → List ℕ → ℕ) (namer : N) (m : ℕ)
     (session : List ℕ) (before manifest told : Option (List ℕ)) (r : Recording S L N) (o : O)
-    (store : S) (log : L) (same : log ≡ r.log) (V : Type 0) where
+    (store : S) (log : L) (same : log ≡ r.log) (V W : Type 0) where
   all_accepted : (recorded : Result ℕ LiveError)
       → RecordsAll taken log_taken out_taken number told (events_after_head session) recorded r o
       → OnOk recorded (HasAccepted taken log_taken number (events_after_head session) r)
@@ -105,7 +108,7 @@ module _ {S L N O : Type 0} (taken : S → Option (List ℕ)) (log_taken : L →
       → RecordsAll taken log_taken out_taken number told (events_after_head session) recorded r o
       → OnOk recorded (has_failed r ≡ false)
       → OnOk recorded ((recording_refusal (number namer) m session ≡ None)
-      × HasRun number namer m session (events_after_head session) before manifest r × V)
+      × HasRun number namer m session (events_after_head session) before manifest r × V × W)
       → IfOk end (λ count. recorded ≡ Ok count)
       → OnOk end (Appends (taken r.store.sink) (taken store) (ending r.store.entries)
       × AreFrom [] r.store.entries)
@@ -114,7 +117,7 @@ module _ {S L N O : Type 0} (taken : S → Option (List ℕ)) (log_taken : L →
   finished_end recorded end accepted sound whole is ended =
       let all = HasAccepted taken log_taken number (events_after_head session) r in
       let run = (recording_refusal (number namer) m session ≡ None)
-      × HasRun number namer m session (events_after_head session) before manifest r × V in
+      × HasRun number namer m session (events_after_head session) before manifest r × V × W in
       let tail = Appends (taken r.store.sink) (taken store) (ending r.store.entries)
       × AreFrom [] r.store.entries in
       let whole_end = IsFinished (number namer) m session before manifest (log_taken log)
@@ -129,17 +132,48 @@ module _ {S L N O : Type 0} (taken : S → Option (List ℕ)) (log_taken : L →
       (all_accepted recorded accepted) whole))
       ended
 
--- only a recording that was whole is ended
-pub end_valid : (P Q R : Type 0) (recorded end : Result ℕ LiveError)
-    → IfOk end (λ count. recorded ≡ Ok count) → OnOk recorded (P × Q × R) → OnOk end P
-end_valid P Q R recorded (Ok count) is h =
-    let whole = subst (λ (r : Result ℕ LiveError). OnOk r (P × Q × R)) is h in whole.0
-end_valid P Q R recorded (Err e) is h = tt
-
-pub third_of : (P Q R : Type 0) (recorded : Result ℕ LiveError) → OnOk recorded (P × Q × R)
+pub third_of : (P Q R V : Type 0) (recorded : Result ℕ LiveError) → OnOk recorded (P × Q × R × V)
     → OnOk recorded R
-third_of P Q R (Ok count) h = h.2
-third_of P Q R (Err e) h = tt
+third_of P Q R V (Ok count) h = h.2
+third_of P Q R V (Err e) h = tt
+
+-- ---- what was recorded whole can be recorded
+
+module _ {S L N : Type 0} (number : N → List ℕ → ℕ) (namer : N) (m : ℕ) (session : List ℕ)
+    (before manifest : Option (List ℕ)) (r : Recording S L N) where
+  abbrev Run : Type 0
+  Run = HasRun number namer m session (events_after_head session) before manifest r
+
+  -- log and store are as short as their sizes say
+  short : Run → r.log_bytes < 2 ^ 64 → length (spell r.store.entries) < 2 ^ 64
+      → (head : SessionHead) → session_head session ≡ Some head
+      → ¬ Overflows (number namer) m head (events_after_head session)
+  short run log store head has (inl long) =
+      let is = run.recorded.counted in omega (arith, is, long, log)
+  short run log store head has (inr long) =
+      let both : Some run.head ≡ Some head = sym run.has_head ∙ has in
+      let one : run.head ≡ head = cc in
+      let is = ap (λ (es : List Entry). length (spell es)) run.recorded.stored
+      ∙ ap (λ (h : SessionHead). length (spell (run_store (number namer) m h
+      (events_after_head session)))) one in
+      omega (arith, is, long, store)
+
+  pub end_recordable : (V : Type 0) (limit : ℕ) (recorded end : Result ℕ LiveError)
+      → OnOk recorded ((recording_refusal (number namer) m session ≡ None) × Run × V
+      × (length session ≤ limit))
+      → IfOk end (λ count. recorded ≡ Ok count)
+      → OnOk end ((r.log_bytes < 2 ^ 64) × (length (spell r.store.entries) < 2 ^ 64))
+      → OnOk end ((length session ≤ limit) × IsRecordable (number namer) m session)
+  end_recordable V limit recorded end whole is fits =
+      end_whole ((recording_refusal (number namer) m session ≡ None) × Run × V
+      × (length session ≤ limit))
+      ((r.log_bytes < 2 ^ 64) × (length (spell r.store.entries) < 2 ^ 64))
+      ((length session ≤ limit) × IsRecordable (number namer) m session) recorded end
+      (λ p q. (
+        p.3,
+        record { valid = p.0; fits = λ over. short p.1 q.0 q.1 over.0 over.1 over.2 },
+      ))
+      is whole fits
 
 -- why the store's end wasn't written, or why none was to be
 pub ended_cause : {S L : Type 0} (faults : S → ℕ) (log_faults : L → ℕ) (manifest out : Type 0)

@@ -1,7 +1,7 @@
 -- What is read of a text line by line.
 use Rattle.std.specs.Io.KnownBytes.{prepend_known}
 use Rattle.std.specs.List.{All}
-use Rattle.std.specs.Prelude.{◌≡◌, ℕ, ◌+◌, ◌<◌, ◌==◌, List, [], ◌∷◌, ◌++◌, length}
+use Rattle.std.specs.Prelude.{◌≡◌, ℕ, ◌+◌, ◌<◌, ◌≤◌, ◌==◌, List, [], ◌∷◌, ◌++◌, length}
 use Rattle.std.specs.Prelude.{Bool, true, false, Option, Some, Result, Ok, Err}
 use Rattle.rec_container.specs.Causes.{Rose}
 use Rattle.rec_container.specs.declared.within.ReadError.TheVariants.{
@@ -73,12 +73,14 @@ module _ {S : Type 0} (left : S → Option (List ℕ)) where
     pub known : prepend_known r.ahead (left r.source) ≡ Some text
     pub counted : r.given + length text ≡ total + length r.ahead
 
-  -- the first line of a text was read, or nothing is left; or why neither is
+  -- the first line of a text was read; or nothing is left, and the source gave no more than its
+  -- limit; or why neither is
   abbrev pub ReadsLine : ℕ → List ℕ → LineReading S → LineReading S → Result Bool ReadError → Type 0
   ReadsLine total text old new (Ok true) =
       (rest : List ℕ) × (lines text ≡ new.line ∷ lines rest) × (new.number ≡ old.number + 1)
       × IsLeft total rest new
-  ReadsLine total text old new (Ok false) = (text ≡ []) × IsLeft total [] new
+  ReadsLine total text old new (Ok false) =
+      (text ≡ []) × IsLeft total [] new × (total ≤ old.limit)
   ReadsLine total text old new (Err SourceFault) = Unit {0}
   ReadsLine total text old new (Err (TooLarge most)) = old.limit < total
   ReadsLine total text old new (Err OutOfMemory) = Unit {0}

@@ -84,13 +84,14 @@ module _ {S L N : Type 0} (faults : S → ℕ) (log_faults : L → ℕ) where
         (Rose (log_faults old.log) (log_faults new.log)) (Rose out out')
         (IsLineRefused refusal (Overflows (number namer) m head (events ++ option_to_list next))) e
 
-    -- the events of all lines were recorded; or why not all
+    -- the events of all lines were recorded, of a source that gives no more than its limit; or why
+    -- not all
     abbrev pub RecordsLines : Type 0 → ℕ → ℕ → List NumberedLine → Recording S L N
         → Recording S L N → ℕ → ℕ → Result T LiveError → Type 0
     RecordsLines failed limit total lines old new out out' (Ok x) =
         (lines_refusal (number namer) m [] lines ≡ None)
         × HasRecorded number namer m head (events_of lines) new
-        × IsLater old new out out'
+        × IsLater old new out out' × (total ≤ limit)
     RecordsLines failed limit total lines old new out out' (Err e) =
         ComesOf ⊥ (Rose (faults old.store.sink) (faults new.store.sink))
         (Rose (log_faults old.log) (log_faults new.log)) (Rose out out')

@@ -1,9 +1,9 @@
 //! A session that is recorded while it runs.
 ghost use Rattle.std.specs.Io.KnownBytes.{Appends};
-ghost use Rattle.std.specs.Prelude.{◌≡◌, ◌+◌, ◌≤◌, ◌⊎◌, ℕ, List, [], Err, IfErr, IfOk, Ok, OnOk};
-ghost use Rattle.std.specs.Prelude.{None, Some, false, length};
+ghost use Rattle.std.specs.Prelude.{◌≡◌, ◌+◌, ◌^◌, ◌<◌, ◌≤◌, ◌⊎◌, ℕ, List, [], Err, IfErr, IfOk};
+ghost use Rattle.std.specs.Prelude.{None, Ok, OnOk, Some, false, length};
 ghost use Rattle.rec_container.specs.Causes.{Rose};
-ghost use Rattle.rec_container.specs.Container.{AreFrom, ending};
+ghost use Rattle.rec_container.specs.Container.{AreFrom, ending, spell};
 ghost use Rattle.rec_codec.specs.Event.{LiveEvent};
 ghost use Rattle.rec_store.specs.Kept.{HavePaths};
 ghost use Rattle.rec_store.specs.Recording.{has_failed};
@@ -25,6 +25,7 @@ use crate::errors::LiveError;
 use crate::line_reader::LineReader;
 use crate::recording::record_session;
 use rec_container::{Sink, Source};
+use rec_forms::Held;
 use rec_store::{OutputNamer, RunRecorder};
 use std::alloc::Global;
 
@@ -106,11 +107,12 @@ pub fn record_live<I: Source, M: Sink, S: Sink, L: Sink, N: OutputNamer, O: Sink
         (M.taken files.manifest) (M.taken result.files.manifest) (L.taken result.files.log)
         (S.taken result.files.store)) }
 
-    // Only a session that nothing refuses is recorded whole.
+    // Only a session within its limit that nothing refuses is recorded whole, and only if what is
+    // recorded of it is short enough.
     ensures valid { (session : List ℕ)
         → I.left lines.old.source ≡ Some session
-        → OnOk result.result
-        (recording_refusal (N.number namer.now) max_output session ≡ None) }
+        → OnOk result.result ((length session ≤ lines.old.limit)
+        × IsRecordable (N.number namer.now) max_output session) }
 
     // Each error has its cause: a sink or the source that failed, or the session's first refusal.
     ensures cause { (session : List ℕ)
@@ -171,6 +173,8 @@ fn end_recording<S: Sink, L: Sink, N: OutputNamer>(
         (Appends (S.taken recorder.entry.store.sink) (S.taken result.1)
         (ending recorder.entry.store.entries)
         × AreFrom [] recorder.entry.store.entries) }
+    ensures fits { OnOk result.0 ((recorder.entry.log_bytes < 2 ^ 64)
+        × (length (spell recorder.entry.store.entries) < 2 ^ 64)) }
     ensures log { result.2 ≡ recorder.entry.log }
     ensures err { IfErr result.0 (λ e.
         ((recorded ≡ Err e) × (result.1 ≡ recorder.entry.store.sink))
@@ -199,13 +203,19 @@ fn finish<S: Sink, L: Sink, N: OutputNamer>(
         (Appends (S.taken recorder.entry.store.sink) (S.taken result.1)
         (ending recorder.entry.store.entries)
         × AreFrom [] recorder.entry.store.entries) }
+    ensures fits { OnOk result.0 ((recorder.entry.log_bytes < 2 ^ 64)
+        × (length (spell recorder.entry.store.entries) < 2 ^ 64)) }
     ensures log { result.2 ≡ recorder.entry.log }
     ensures err { IfErr result.0 (λ e. (e ≡ StoreFault)
         × Rose (S.faults recorder.entry.store.sink) (S.faults result.1)) }
 {
     let end = recorder.finish();
     let result = match end.result {
-        Ok(_) => Ok(count),
+        Ok(sizes) => {
+            sizes.log.compressed.held();
+            sizes.store.compressed.held();
+            Ok(count)
+        }
         Err(_) => Err(LiveError::StoreFault),
     };
     (result, end.store, end.log)

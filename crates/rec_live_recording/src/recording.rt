@@ -69,7 +69,8 @@ pub fn record_session<I: Source, M: Sink, S: Sink, L: Sink, N: OutputNamer, O: S
         ((recording_refusal (N.number recorder.old.namer) recorder.old.max_output text ≡ None)
         × HasRun N.number recorder.old.namer recorder.old.max_output text (events_after_head text)
         (M.taken manifest.old) (M.taken manifest.new) recorder.new
-        × (S.faults recorder.old.store.sink ≤ S.faults recorder.new.store.sink)) }
+        × (S.faults recorder.old.store.sink ≤ S.faults recorder.new.store.sink)
+        × (total ≤ lines.old.limit)) }
     ensures cause { (total : ℕ) (text : List ℕ)
         → IsLeft I.left total text lines.old
         → IfErr result (ComesOf (Rose (M.faults manifest.old) (M.faults manifest.new))

@@ -129,29 +129,33 @@ module _ {S : Type 0} (left : S → Option (List ℕ)) (faults : S → ℕ) (lim
         c.0 c.1 c.2
     written (Err e) same makes w c = tt
 
-  -- nothing was made
-  pub unmade : (r : Result Packed PackError) (before then now : ℕ) → mid ≡ old → before ≤ then
-      → IfErr r (MakesNone mid dir then now)
-      → IfErr r (IsRefused left faults limit s0 s1 old new dir path before now)
-  unmade (Ok p) before then now same later none = tt
-  unmade (Err e) before then now same later (inl memory) = inr (inr (inl (inl memory)))
-  unmade (Err e) before then now same later (inr (fault, is, refused, caused)) =
-      inr (inr (inl (inr (
-        fault,
-        is,
-        subst (λ (f : Option Files). IsRefusedIn f dir fault) same refused,
-        caused_later before then now fault later caused,
-      ))))
+  module _ (run : RecordedRunInfo)
+      (closed : ClosedBy left faults limit (info_of manifest.run) s0 s1 run) where
+    -- nothing was made
+    pub unmade : (r : Result Packed PackError) (before then now : ℕ) → mid ≡ old → before ≤ then
+        → IfErr r (MakesNone mid dir then now)
+        → IfErr r (IsRefused left faults limit s0 s1 old new dir path before now)
+    unmade (Ok p) before then now same later none = tt
+    unmade (Err e) before then now same later (inl memory) =
+        inr (manifest, has, inr (run, closed, inl (inl memory)))
+    unmade (Err e) before then now same later (inr (fault, is, refused, caused)) =
+        inr (manifest, has, inr (run, closed, inl (inr (
+          fault,
+          is,
+          subst (λ (f : Option Files). IsRefusedIn f dir fault) same refused,
+          caused_later before then now fault later caused,
+        ))))
 
-  -- the bundle wasn't written
-  pub unwritten : (r : Result Packed PackError) (before then now : ℕ) → mid ≡ old → before ≤ then
-      → IfErr r (Unwritten mid then now)
-      → IfErr r (IsRefused left faults limit s0 s1 old new dir path before now)
-  unwritten (Ok p) before then now same later none = tt
-  unwritten (Err e) before then now same later (inl memory) = inr (inr (inr (inl memory)))
-  unwritten (Err e) before then now same later (inr (is, fails)) =
-      inr (inr (inr (inr (
-        is,
-        fails_later old before then now later
-            (subst (λ (f : Option Files). DiskFails f then now) same fails),
-      ))))
+    -- the bundle wasn't written
+    pub unwritten : (r : Result Packed PackError) (before then now : ℕ) → mid ≡ old → before ≤ then
+        → IfErr r (Unwritten mid then now)
+        → IfErr r (IsRefused left faults limit s0 s1 old new dir path before now)
+    unwritten (Ok p) before then now same later none = tt
+    unwritten (Err e) before then now same later (inl memory) =
+        inr (manifest, has, inr (run, closed, inr (inl memory)))
+    unwritten (Err e) before then now same later (inr (is, fails)) =
+        inr (manifest, has, inr (run, closed, inr (inr (
+          is,
+          fails_later old before then now later
+              (subst (λ (f : Option Files). DiskFails f then now) same fails),
+        ))))

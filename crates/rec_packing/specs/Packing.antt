@@ -91,15 +91,15 @@ module _ {S : Type 0} (left : S → Option (List ℕ)) (faults : S → ℕ) (lim
     pub events : p.events ≡ made.events
     pub outputs : p.outputs ≡ made.outputs
 
-  -- why nothing was packed: by the manifest, by the head that the run ended with, by log and store,
-  -- or since the disk failed where the bundle was written
+  -- why nothing was packed: by the manifest; else by the head that the run ended with; else by log
+  -- and store, or since the disk failed where the bundle was written
   abbrev pub IsRefused : ℕ → ℕ → PackError → Type 0
   IsRefused before now e =
       LacksManifest old before now dir e
       ⊎ ((manifest : PortableManifest) × HasManifest old dir manifest
-      × Unclosed left faults limit (info_of manifest.run) s0 s1 e)
-      ⊎ MakesNone old dir before now e
-      ⊎ Unwritten old before now e
+      × (Unclosed left faults limit (info_of manifest.run) s0 s1 e
+      ⊎ ((run : RecordedRunInfo) × ClosedBy left faults limit (info_of manifest.run) s0 s1 run
+      × (MakesNone old dir before now e ⊎ Unwritten old before now e))))
 
 -- no file has changed, but that the temporary one may hold the begin of something
 abbrev pub LeavesFiles : Option Files → Option Files → List ℕ → Type 0

@@ -37,17 +37,21 @@ HasManifest files dir manifest =
     (text : List ℕ) × IsWhole files (path_of_manifest dir) text
     × (bytes_form manifest_form text ≡ Some manifest)
 
--- why it wasn't read
-abbrev pub LacksManifest : Option Files → ℕ → ℕ → List ℕ → PackError → Type 0
-LacksManifest files before now dir (OpenManifest path) =
+-- the files have none: it is missing, or is no manifest
+abbrev pub RefusesManifest : Option Files → List ℕ → PackError → Type 0
+RefusesManifest files dir (OpenManifest path) =
     (path ≡ path_of_manifest dir) × IsMissing files path
-LacksManifest files before now dir (DiskFault path) =
-    (path ≡ path_of_manifest dir) × Rose before now
-LacksManifest files before now dir ParseManifest =
+RefusesManifest files dir ParseManifest =
     (text : List ℕ) × IsWhole files (path_of_manifest dir) text
     × (bytes_form manifest_form text ≡ None)
+RefusesManifest files dir e = ⊥
+
+-- why it wasn't read
+abbrev pub LacksManifest : Option Files → ℕ → ℕ → List ℕ → PackError → Type 0
+LacksManifest files before now dir (DiskFault path) =
+    (path ≡ path_of_manifest dir) × Rose before now
 LacksManifest files before now dir OutOfMemory = Unit {0}
-LacksManifest files before now dir e = ⊥
+LacksManifest files before now dir e = RefusesManifest files dir e
 
 -- the head that a text is, with white space around it
 abbrev pub closing_head : List ℕ → Option SessionHead
@@ -73,18 +77,22 @@ Closes run text closed =
     ⊎ ((head : SessionHead) × (closing_head text ≡ Some head) × IsOf run head
     × (closed ≡ ended_as run head))
 
+-- why a text closes no run: it is no head, or the head of another run
+abbrev pub RefusesClosing : RecordedRunInfo → List ℕ → PackError → Type 0
+RefusesClosing run text e =
+    ¬ (text ≡ []) × (((e ≡ Closing ParseHead) × (closing_head text ≡ None))
+    ⊎ ((e ≡ OtherRun) × ((head : SessionHead) × (closing_head text ≡ Some head)
+    × ¬ IsOf run head)))
+
 module _ {S : Type 0} (left : S → Option (List ℕ)) (faults : S → ℕ) (limit : ℕ) where
   -- the run was closed by what a source gave
   abbrev pub ClosedBy : RecordedRunInfo → S → S → RecordedRunInfo → Type 0
   ClosedBy run old new closed =
       (text : List ℕ) × Gave left faults limit old new text × Closes run text closed
 
-  -- why it wasn't: the source wasn't read, or gave what is no head, or the head of another run
+  -- why it wasn't: the source wasn't read, or gave what closes no run
   abbrev pub Unclosed : RecordedRunInfo → S → S → PackError → Type 0
   Unclosed run old new e =
       ((fault : ReadError) × (e ≡ closing_fault fault) × Unread left faults limit old new fault)
       ⊎ ((text : List ℕ) × Gave left faults limit old new text
-      × (((e ≡ Closing ParseHead) × (closing_head text ≡ None))
-      ⊎ ((e ≡ OtherRun) × ((head : SessionHead) × (closing_head text ≡ Some head)
-      × ¬ IsOf run head))
-      ⊎ (e ≡ OutOfMemory)))
+      × ((e ≡ OutOfMemory) ⊎ RefusesClosing run text e))

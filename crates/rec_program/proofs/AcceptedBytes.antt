@@ -1,4 +1,4 @@
--- That status 0 comes only for bytes that the command accepts.
+-- That status 0 comes only for what the command accepts.
 use Rattle.std.proofs.Common.{◌≡◌, ℕ, ◌≤◌, List, length, None, Some, Ok, sym, subst}
 use Rattle.rec_container.proofs.Results.{then_ok}
 use Rattle.rec_container.specs.Container.{Entry, IsContainer}
@@ -12,11 +12,12 @@ use Rattle.rec_reading.specs.Slots.{HasUsage}
 use Rattle.rec_export.proofs.Complete.{same_session}
 use Rattle.rec_export.specs.Bundle.{session_refusal}
 use Rattle.rec_export.specs.declared.settings.Settings.{Settings}
+use Rattle.rec_packing.proofs.Judged.{packed_packable}
 use Rattle.rec_words.specs.Words.{Asked, recording, tracing, replaying}
 use Rattle.rec_words.specs.Words.{reporting, informing, slotting, rerunning, viewing}
 use Rattle.rec_words.specs.Words.{sampling, upgrading, salvaging, living, packing, help, version}
 use Rattle.rec_program.specs.Objects.{Objects, SourceGave}
-use Rattle.rec_program.specs.Promises.{Admits, IsBundle, IsValid, Judges, Shows, Succeeds}
+use Rattle.rec_program.specs.Promises.{Accepts, IsBundle, IsValid, Judges, Shows, Succeeds}
 use Rattle.rec_program.specs.Salvaging.{stopped_with}
 
 -- where there is a report of their slots, nothing keeps the events from one
@@ -53,8 +54,8 @@ module _ {S B F D T G : Type 0} (o : Objects S B F D T G) (bytes : List ℕ) whe
   )
 
   pub only_accepted : (number : List ℕ → ℕ) (asked : Asked)
-      → Judges asked (o.source.left o.s0) bytes → Succeeds o number asked
-      → Admits number asked bytes
+      → Judges asked (o.source.left o.s0) (o.disk.files o.k0) bytes → Succeeds o number asked
+      → Accepts number asked (o.disk.files o.k0) bytes
   only_accepted number (recording path settings) has (exported, e) = (
     given_within settings.session_limit e.0 has e.3,
     subst (λ (s : List ℕ). session_refusal number settings s ≡ None)
@@ -98,6 +99,8 @@ module _ {S B F D T G : Type 0} (o : Objects S B F D T G) (bytes : List ℕ) whe
         ),
       )
   only_accepted number (living path settings) has s = s.2 bytes has
-  only_accepted number (packing directory path settings) has s = absurd has
+  only_accepted number (packing directory path settings) has (p, packs, out) =
+      packed_packable o.source.left o.source.faults settings.session_limit o.s0 o.s1 directory path
+      bytes has.0 (o.disk.files o.k0) (o.disk.files o.k1) p packs
   only_accepted number help has s = tt
   only_accepted number version has s = tt

@@ -15,10 +15,13 @@ use Rattle.rec_sample.specs.Session.{sample_session}
 use Rattle.rec_export.proofs.Complete.{fails}
 use Rattle.rec_export.specs.Bundle.{AreOf, session_refusal}
 use Rattle.rec_export.specs.declared.settings.Settings.{Settings}
+use Rattle.rec_packing.proofs.Judged.{packable_unrefused, refused_or_memory}
+use Rattle.rec_packing.specs.declared.errors.PackError.TheVariants as packs
+use Rattle.rec_packing.specs.declared.errors.PackError.{PackError}
 use Rattle.rec_words.specs.Words.{Asked, recording, tracing, replaying}
 use Rattle.rec_words.specs.Words.{reporting, informing, slotting, rerunning, viewing}
 use Rattle.rec_words.specs.Words.{sampling, upgrading, salvaging, living, packing, help, version}
-use Rattle.rec_faults.specs.DirectoryCommands.{live_status}
+use Rattle.rec_faults.specs.DirectoryCommands.{live_status, pack_status}
 use Rattle.rec_faults.specs.Status.{export_status}
 use Rattle.rec_program.proofs.AcceptedBytes.{only_accepted}
 use Rattle.rec_program.proofs.Commands.{bundle_printed, info_is, info_or_memory, log_timeline}
@@ -32,8 +35,7 @@ use Rattle.rec_program.proofs.WritingCommands.{not_salvaged, not_upgraded, salva
 use Rattle.rec_program.proofs.WritingCommands.{salvaged_or_memory, upgraded, upgraded_or_memory}
 use Rattle.rec_program.specs.BundleTraces.{PrintsTrace}
 use Rattle.rec_program.specs.Objects.{Objects, OutFailed, OutTook}
-use Rattle.rec_program.specs.Promises.{Accepts, Admits, IsTold, Judges, Shows, Stops, Succeeds}
-use Rattle.rec_program.specs.Promises.{Undisturbed}
+use Rattle.rec_program.specs.Promises.{Accepts, IsTold, Judges, Shows, Stops, Succeeds, Undisturbed}
 use Rattle.rec_program.specs.Running.{Runs, ShowsReading, Tells}
 use Rattle.rec_program.specs.Statuses.{Refuses}
 
@@ -163,8 +165,15 @@ module _ {S B F D T G : Type 0} (o : Objects S B F D T G) (status : ℕ) where
   text_told text out (inl p, source, bundle) = inl p.0
   text_told text out (inr p, source, bundle) = absurd (out p.1)
 
+  -- a directory that wasn't packed isn't accepted, unless memory ran out
+  packed_or_memory : (e : PackError) {X : Type 0} → status ≡ pack_status e
+      → (X → (e ≡ packs.OutOfMemory)) → (e ≡ packs.OutOfMemory) ⊎ X → status ≡ 70
+  packed_or_memory e is never (inl memory) = is ∙ ap pack_status memory
+  packed_or_memory e is never (inr refused) = is ∙ ap pack_status (never refused)
+
   completes : (number : List ℕ → ℕ) (asked : Asked) (bytes : List ℕ)
-      → Judges asked (o.source.left o.s0) bytes → Accepts number asked bytes → Undisturbed o asked
+      → Judges asked (o.source.left o.s0) (o.disk.files o.k0) bytes
+      → Accepts number asked (o.disk.files o.k0) bytes → Undisturbed o asked
       → Runs o status number (Ok asked) → (status ≡ 0) ⊎ (status ≡ 70)
   completes number (recording path settings) bytes has a well (inl r) = inl r.0
   completes number (recording path settings) bytes has a well (inr r) =
@@ -220,7 +229,22 @@ module _ {S B F D T G : Type 0} (o : Objects S B F D T G) (status : ℕ) where
       let only =
       lives.completes bytes has a.0 a.1 well.0 well.1 well.2 well.3 well.4 in
       inr (told.0 ∙ ap live_status only)
-  completes number (packing directory path settings) bytes has a well runs = absurd a
+  completes number (packing directory path settings) bytes has a well
+      (inl (p, packs, inl (inl t)), kept) =
+      inl t.0
+  completes number (packing directory path settings) bytes has a well
+      (inl (p, packs, inl (inr t)), kept) =
+      absurd (well.2 t.1)
+  completes number (packing directory path settings) bytes has a well
+      (inl (p, packs, inr t), kept) =
+      inr t.1.0
+  completes number (packing directory path settings) bytes has a well (inr r, kept) =
+      inr (packed_or_memory r.0 r.4.0
+      (λ refused. packable_unrefused (o.disk.files o.k0) has.1.0 has.1.1 directory
+      settings.session_limit bytes r.0 a refused)
+      (refused_or_memory o.source.left o.source.faults settings.session_limit o.s0 o.s1 directory
+      path bytes has.0 (o.disk.files o.k0) (o.disk.files o.k1) has.1.0 has.1.1
+      (o.disk.faults o.k0) (o.disk.faults o.k1) well.0 well.1 r.0 r.1))
   completes number help bytes has a well runs = text_told _ well runs
   completes number version bytes has a well runs = text_told _ well runs
 
@@ -248,13 +272,15 @@ module _ {S B F D T G : Type 0} (o : Objects S B F D T G) (status : ℕ) where
     stopped asked is other = stops number asked other (asked_runs asked is)
 
     pub accepted : (asked : Asked) (bytes : List ℕ) → words ≡ Ok asked
-        → Judges asked (o.source.left o.s0) bytes → status ≡ 0 → Admits number asked bytes
+        → Judges asked (o.source.left o.s0) (o.disk.files o.k0) bytes → status ≡ 0
+        → Accepts number asked (o.disk.files o.k0) bytes
     accepted asked bytes is has zeroed =
         only_accepted o bytes number asked has (succeeded asked is zeroed)
 
     pub refused : (asked : Asked) (bytes : List ℕ) → words ≡ Ok asked
-        → Judges asked (o.source.left o.s0) bytes → Undisturbed o asked → ¬ (status ≡ 0)
-        → ¬ (status ≡ 70) → Refuses number asked bytes status
+        → Judges asked (o.source.left o.s0) (o.disk.files o.k0) bytes → Undisturbed o asked
+        → ¬ (status ≡ 0) → ¬ (status ≡ 70)
+        → Refuses number asked (o.disk.files o.k0) bytes status
     refused asked bytes is has well other memory =
         only_refused o status bytes other memory number asked has well (asked_runs asked is)
 
@@ -263,7 +289,8 @@ module _ {S B F D T G : Type 0} (o : Objects S B F D T G) (status : ℕ) where
     told_or_failed asked is told_is = tells number asked told_is (asked_runs asked is)
 
     pub completed : (asked : Asked) (bytes : List ℕ) → words ≡ Ok asked
-        → Judges asked (o.source.left o.s0) bytes → Accepts number asked bytes → Undisturbed o asked
+        → Judges asked (o.source.left o.s0) (o.disk.files o.k0) bytes
+        → Accepts number asked (o.disk.files o.k0) bytes → Undisturbed o asked
         → (status ≡ 0) ⊎ (status ≡ 70)
     completed asked bytes is has a well =
         completes number asked bytes has a well (asked_runs asked is)

@@ -1,11 +1,13 @@
 -- That a status other than 0 and 70 comes only for bytes that are refused with it, where no object
 -- failed.
-use Rattle.std.proofs.Common.{◌≡◌, inl, inr, ℕ, ◌<◌, ◌≤◌, List, length, Some, Result, Ok, Err}
+use Rattle.std.proofs.Common.{◌≡◌, ◌⊎◌, inl, inr, ℕ, ◌<◌, ◌≤◌, List, length, Option, Some}
+use Rattle.std.proofs.Common.{Result, Ok, Err}
 use Rattle.std.proofs.Common.{refl, sym, ap, subst, ◌∙◌, arith}
 use Rattle.rec_container.specs.Container.{Entry}
 use Rattle.rec_container.specs.declared.within.ReadError.TheVariants as read
 use Rattle.rec_container.specs.declared.within.ReadError.{ReadError}
 use Rattle.rec_container.specs.Within.{Unread}
+use Rattle.rec_disk.specs.Disks.{Files}
 use Rattle.rec_portable.specs.declared.errors.PortableRecordingReadError.TheVariants as bundles
 use Rattle.rec_portable.specs.declared.errors.PortableRecordingReadError.{
   PortableRecordingReadError,
@@ -31,10 +33,14 @@ use Rattle.rec_live_recording.specs.declared.errors.LiveError.TheVariants as liv
 use Rattle.rec_live_recording.specs.declared.errors.LiveError.{LiveError}
 use Rattle.rec_live_recording.specs.Refusals.{ComesOf, IsRefused as IsLiveRefused}
 use Rattle.rec_live_recording.specs.Refusals.{SessionOverflows, recording_refusal}
+use Rattle.rec_packing.proofs.Judged.{refused_or_memory}
+use Rattle.rec_packing.specs.declared.errors.PackError.TheVariants as packs
+use Rattle.rec_packing.specs.declared.errors.PackError.{PackError}
+use Rattle.rec_packing.specs.Judging.{IsUnpackable}
 use Rattle.rec_words.specs.Words.{Asked, recording, tracing, replaying}
 use Rattle.rec_words.specs.Words.{reporting, informing, slotting, rerunning, viewing}
 use Rattle.rec_words.specs.Words.{sampling, upgrading, salvaging, living, packing, help, version}
-use Rattle.rec_faults.specs.DirectoryCommands.{live_status}
+use Rattle.rec_faults.specs.DirectoryCommands.{live_status, pack_status}
 use Rattle.rec_faults.specs.Status.{export_status, reading_status}
 use Rattle.rec_faults.specs.WritingCommands.{upgrade_status}
 use Rattle.rec_program.specs.BundleTraces.{PrintsTrace}
@@ -199,10 +205,21 @@ module _ {S B F D T G : Type 0} (o : Objects S B F D T G) (status : ℕ) (bytes 
         )
     unwritten e well sink is (inr (inr f)) = absurd (sink f.5)
 
+  -- ---- of a directory that is packed
+
+  unpacked : (files : Option Files) (dir : List ℕ) (settings : Settings) (e : PackError)
+      → status ≡ pack_status e
+      → (e ≡ packs.OutOfMemory) ⊎ IsUnpackable files dir settings.session_limit bytes e
+      → (x : PackError) × IsUnpackable files dir settings.session_limit bytes x
+      × (status ≡ pack_status x)
+  unpacked files dir settings e is (inl none) = absurd (memory (is ∙ ap pack_status none))
+  unpacked files dir settings e is (inr refused) = (e, refused, is)
+
   -- ---- by what is asked for
 
-  pub only_refused : (number : List ℕ → ℕ) (asked : Asked) → Judges asked (o.source.left o.s0) bytes
-      → Undisturbed o asked → Runs o status number (Ok asked) → Refuses number asked bytes status
+  pub only_refused : (number : List ℕ → ℕ) (asked : Asked)
+      → Judges asked (o.source.left o.s0) (o.disk.files o.k0) bytes → Undisturbed o asked
+      → Runs o status number (Ok asked) → Refuses number asked (o.disk.files o.k0) bytes status
   only_refused number (recording path settings) has well (inl r) = absurd (other r.0)
   only_refused number (recording path settings) has well (inr (e, inl u, refused)) =
       unread_session number settings has e well.0 refused.0 u.0
@@ -259,6 +276,14 @@ module _ {S B F D T G : Type 0} (o : Objects S B F D T G) (status : ℕ) (bytes 
       absurd (other told.0)
   only_refused number (living path settings) has well ((Err e, lives, told), kept) =
       unlived number settings e told.0 well.0 well.1 well.2 well.3 well.4 (lives.cause bytes has)
-  only_refused number (packing directory path settings) has well runs = absurd has
+  only_refused number (packing directory path settings) has well (inl (p, packs, inl t), kept) =
+      printed _ well.2 t
+  only_refused number (packing directory path settings) has well (inl (p, packs, inr t), kept) =
+      absurd (memory t.1.0)
+  only_refused number (packing directory path settings) has well (inr r, kept) =
+      unpacked (o.disk.files o.k0) directory settings r.0 r.4.0
+      (refused_or_memory o.source.left o.source.faults settings.session_limit o.s0 o.s1 directory
+      path bytes has.0 (o.disk.files o.k0) (o.disk.files o.k1) has.1.0 has.1.1
+      (o.disk.faults o.k0) (o.disk.faults o.k1) well.0 well.1 r.0 r.1)
   only_refused number help has well runs = printed _ well runs.0
   only_refused number version has well runs = printed _ well runs.0

@@ -1,6 +1,6 @@
 -- What a recording that goes on leaves in its files, and why it ends.
 use Rattle.std.specs.Io.KnownBytes.{Appends}
-use Rattle.std.specs.Prelude.{◌≡◌, ◌⊎◌, ◌+◌, ◌≤◌, ℕ, List, [], length, Option, Some, None, Result}
+use Rattle.std.specs.Prelude.{◌≡◌, ◌⊎◌, ◌+◌, ◌≤◌, ℕ, List, [], length, Option, Some, Result}
 use Rattle.std.specs.Prelude.{IfErr, IfOk, OnOk}
 use Rattle.rec_container.specs.Causes.{Rose}
 use Rattle.rec_errors.specs.declared.export_error.RecordExportError.TheVariants.{OutOfMemory}
@@ -80,6 +80,6 @@ module _ {S F T : Type 0} (left : S → Option (List ℕ)) (faults : S → ℕ)
     pub all : IfOk result (λ count. AcknowledgesAll left taken out_taken number most s0 f0 f1 o0 o1)
     pub whole : OnOk result (FinishesFiles left taken out_taken number most s0 f0 f1 o0 o1)
     pub valid : (session : List ℕ) → left s0 ≡ Some session
-        → OnOk result (recording_refusal number most session ≡ None)
+        → OnOk result ((length session ≤ limit) × IsRecordable number most session)
     pub cause : HasCause result
     pub completes : Completes result

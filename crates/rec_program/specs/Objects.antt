@@ -84,6 +84,10 @@ module _ {S B F D T G : Type 0} (o : Objects S B F D T G) where
   abbrev pub LogFailed : Type 0
   LogFailed = Rose (o.file.faults o.f0.log) (o.file.faults o.f1.log)
 
+  -- the disk failed
+  abbrev pub DiskFailed : Type 0
+  DiskFailed = Rose (o.disk.faults o.k0) (o.disk.faults o.k1)
+
   -- the same of the sink of what is printed
   abbrev pub OutTook : List ℕ → Type 0
   OutTook bytes = Appends (o.out.taken o.o0) (o.out.taken o.o1) bytes

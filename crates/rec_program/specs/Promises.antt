@@ -3,6 +3,7 @@ use Rattle.std.specs.Prelude.{◌≡◌, ◌⊎◌, ◌≤◌, ⊤, ℕ, List, l
 use Rattle.std.specs.Prelude.{Result}
 use Rattle.rec_container.specs.Container.{Entry, IsContainer}
 use Rattle.rec_container.specs.WholePrefixes.{IsWholePrefix}
+use Rattle.rec_disk.specs.Disks.{Files}
 use Rattle.rec_format.specs.declared.manifest.PortableManifest.{PortableManifest}
 use Rattle.rec_codec.specs.LineReading.{first_line_fault}
 use Rattle.rec_store.specs.RunParts.{RunParts, written}
@@ -29,8 +30,9 @@ use Rattle.rec_export.specs.declared.counts.Exported.{Exported}
 use Rattle.rec_export.specs.declared.settings.Settings.{Settings}
 use Rattle.rec_export.specs.Export.{Exports}
 use Rattle.rec_export.specs.Timelines.{DrawsTimeline}
-use Rattle.rec_live_recording.specs.Refusals.{IsRecordable, recording_refusal}
+use Rattle.rec_live_recording.specs.Refusals.{IsRecordable}
 use Rattle.rec_packing.specs.declared.packing.Packed.{Packed}
+use Rattle.rec_packing.specs.Judging.{IsPackable}
 use Rattle.rec_packing.specs.Packing.{LeavesFiles as LeavesBundle, Packs}
 use Rattle.rec_words.specs.declared.usage.TheConstants.{USAGE}
 use Rattle.rec_words.specs.Usage.{versions_text}
@@ -43,7 +45,7 @@ use Rattle.rec_program.specs.LiveRuns.{AcknowledgesAll, FinishesFiles, KeepsAckn
 use Rattle.rec_program.specs.LogTraces.{log_refusal, plain_log}
 use Rattle.rec_program.specs.Objects.{Objects, SourceGave, SourceFailed}
 use Rattle.rec_program.specs.Objects.{BundleTook, BundleTookPart, BundleFailed, OutTook, OutFailed}
-use Rattle.rec_program.specs.Objects.{LogFailed, ManifestFailed, StoreFailed}
+use Rattle.rec_program.specs.Objects.{DiskFailed, LogFailed, ManifestFailed, StoreFailed}
 use Rattle.rec_program.specs.Salvaging.{StoppedRun, stopped_run}
 use Rattle.rec_program.specs.Samples.{TakesSample, session_counts}
 
@@ -109,7 +111,8 @@ module _ {S B F D T G : Type 0} (o : Objects S B F D T G) where
       × FinishesFiles o.source.left o.file.taken o.out.taken number settings.max_output o.s0 o.f0
       o.f1 o.o0 o.o1
       × ((session : List ℕ) → o.source.left o.s0 ≡ Some session
-      → recording_refusal number settings.max_output session ≡ None)
+      → (length session ≤ settings.session_limit)
+      × IsRecordable number settings.max_output session)
   Succeeds number (packing directory path settings) =
       (p : Packed) × Packs o.source.left o.source.faults settings.session_limit o.s0 o.s1
       (o.disk.files o.k0) (o.disk.files o.k1) directory path p
@@ -148,15 +151,17 @@ module _ {S B F D T G : Type 0} (o : Objects S B F D T G) where
   LeavesFiles (Ok (packing directory path settings)) = o.f1 ≡ o.f0
   LeavesFiles words = (o.f1 ≡ o.f0) × (o.k1 ≡ o.k0)
 
--- ---- which bytes a command accepts
+-- ---- what a command accepts
 
--- the bytes that a command judges: those that the source has left, or the session that it makes
-abbrev pub Judges : Asked → Option (List ℕ) → List ℕ → Type 0
-Judges (sampling n path settings) left bytes = bytes ≡ sample_session n
-Judges (packing directory path settings) left bytes = ⊥
-Judges help left bytes = ⊤
-Judges version left bytes = ⊤
-Judges asked left bytes = left ≡ Some bytes
+-- the bytes that a command judges: those that the source has left, or the session that it makes.
+-- `pack` judges the disk's files too, which are known
+abbrev pub Judges : Asked → Option (List ℕ) → Option Files → List ℕ → Type 0
+Judges (sampling n path settings) left files bytes = bytes ≡ sample_session n
+Judges (packing directory path settings) left files bytes =
+    (left ≡ Some bytes) × ((known : Files) × (files ≡ Some known))
+Judges help left files bytes = ⊤
+Judges version left files bytes = ⊤
+Judges asked left files bytes = left ≡ Some bytes
 
 -- a session within the limit that isn't refused
 abbrev pub IsValid : (List ℕ → ℕ) → Settings → List ℕ → Type 0
@@ -169,49 +174,43 @@ IsBundle settings Has bytes =
     (length bytes ≤ settings.session_limit) × ((es : List Entry) × (manifest : PortableManifest)
     × IsContainer bytes es × (judged settings.read_limit es ≡ Ok manifest) × Has es)
 
-abbrev pub Accepts : (List ℕ → ℕ) → Asked → List ℕ → Type 0
-Accepts number (recording path settings) bytes = IsValid number settings bytes
-Accepts number (tracing settings) bytes =
+abbrev pub Accepts : (List ℕ → ℕ) → Asked → Option Files → List ℕ → Type 0
+Accepts number (recording path settings) files bytes = IsValid number settings bytes
+Accepts number (tracing settings) files bytes =
     IsBundle settings (λ es. (log : List ℕ) × (log_part settings.read_limit es ≡ Ok log)
     × (log_refusal settings.group_by (log_lines log) ≡ None))
     bytes
-Accepts number (replaying output settings) bytes =
+Accepts number (replaying output settings) files bytes =
     IsBundle settings
     (λ es. (text : List ℕ) × (replay_of output settings.read_limit es ≡ Ok text)) bytes
-Accepts number (reporting settings) bytes =
+Accepts number (reporting settings) files bytes =
     IsBundle settings (λ es. (text : List ℕ) × (report_of settings.read_limit es ≡ Ok text)) bytes
-Accepts number (informing settings) bytes = IsBundle settings (λ es. ⊤) bytes
-Accepts number (slotting settings) bytes =
+Accepts number (informing settings) files bytes = IsBundle settings (λ es. ⊤) bytes
+Accepts number (slotting settings) files bytes =
     IsBundle settings (λ es. (log : List ℕ) × (log_part settings.read_limit es ≡ Ok log)
     × (first_line_fault (log_lines log) ≡ None) × HasUsage (plain_log (log_lines log)))
     bytes
-Accepts number (rerunning settings) bytes =
+Accepts number (rerunning settings) files bytes =
     IsBundle settings
     (λ es. (run : RerunParts) × (rerun_parts_of settings.read_limit es ≡ Ok run)) bytes
-Accepts number (viewing output settings) bytes =
+Accepts number (viewing output settings) files bytes =
     IsBundle settings
     (λ es. (text : List ℕ) × (view_of output settings.read_limit es ≡ Ok text)) bytes
-Accepts number (sampling n path settings) bytes = IsValid number settings bytes
-Accepts number (upgrading path settings) bytes =
+Accepts number (sampling n path settings) files bytes = IsValid number settings bytes
+Accepts number (upgrading path settings) files bytes =
     (length bytes ≤ settings.session_limit)
     × ((parts : RunParts) × IsAccepted bytes settings.read_limit parts)
-Accepts number (salvaging path settings) bytes =
+Accepts number (salvaging path settings) files bytes =
     IsBundle settings (λ es. (stopped : StoppedRun) × (prefix : List Entry)
     × (stopped_run settings.read_limit es ≡ Ok stopped) × IsWholePrefix stopped.store prefix
     × (prefix_refusal prefix ≡ None))
     bytes
-Accepts number (living path settings) bytes =
+Accepts number (living path settings) files bytes =
     (length bytes ≤ settings.session_limit) × IsRecordable number settings.max_output bytes
-Accepts number (packing directory path settings) bytes = ⊥
-Accepts number help bytes = ⊤
-Accepts number version bytes = ⊤
-
--- what status 0 says of the bytes: the command accepts them; of a recording that goes on, that
--- nothing in them refuses it
-abbrev pub Admits : (List ℕ → ℕ) → Asked → List ℕ → Type 0
-Admits number (living path settings) bytes =
-    recording_refusal number settings.max_output bytes ≡ None
-Admits number asked bytes = Accepts number asked bytes
+Accepts number (packing directory path settings) files bytes =
+    IsPackable files directory settings.session_limit bytes
+Accepts number help files bytes = ⊤
+Accepts number version files bytes = ⊤
 
 module _ {S B F D T G : Type 0} (o : Objects S B F D T G) where
   -- none of the objects that a command uses failed
@@ -224,6 +223,8 @@ module _ {S B F D T G : Type 0} (o : Objects S B F D T G) where
       ¬ SourceFailed o × ¬ BundleFailed o × ¬ OutFailed o
   Undisturbed (living path settings) =
       ¬ SourceFailed o × ¬ ManifestFailed o × ¬ StoreFailed o × ¬ LogFailed o × ¬ OutFailed o
+  Undisturbed (packing directory path settings) =
+      ¬ SourceFailed o × ¬ DiskFailed o × ¬ OutFailed o
   Undisturbed help = ¬ OutFailed o
   Undisturbed version = ¬ OutFailed o
   Undisturbed asked = ¬ SourceFailed o × ¬ OutFailed o

@@ -1,6 +1,8 @@
 -- Which status comes for which bytes.
-use Rattle.std.specs.Prelude.{◌≡◌, ◌⊎◌, ◌<◌, ◌≤◌, ℕ, List, length, None, Some, Result, Err}
+use Rattle.std.specs.Prelude.{◌≡◌, ◌⊎◌, ◌<◌, ◌≤◌, ℕ, List, length, Option, None, Some}
+use Rattle.std.specs.Prelude.{Result, Err}
 use Rattle.rec_container.specs.Container.{Entry}
+use Rattle.rec_disk.specs.Disks.{Files}
 use Rattle.rec_portable.specs.declared.upgrade_error.UpgradeError.{UpgradeError}
 use Rattle.rec_portable.specs.Upgrading.{IsRefused}
 use Rattle.rec_errors.specs.declared.export_error.RecordExportError.TheVariants.{CountOutOfRange}
@@ -14,9 +16,12 @@ use Rattle.rec_reading.specs.Views.{PrintsView}
 use Rattle.rec_export.specs.Bundle.{session_refusal}
 use Rattle.rec_export.specs.declared.settings.Settings.{Settings}
 use Rattle.rec_live_recording.specs.Refusals.{SessionOverflows, recording_refusal}
+use Rattle.rec_packing.specs.declared.errors.PackError.{PackError}
+use Rattle.rec_packing.specs.Judging.{IsUnpackable}
 use Rattle.rec_words.specs.Words.{Asked, recording, tracing, replaying}
 use Rattle.rec_words.specs.Words.{reporting, informing, slotting, rerunning, viewing}
 use Rattle.rec_words.specs.Words.{sampling, upgrading, salvaging, living, packing, help, version}
+use Rattle.rec_faults.specs.DirectoryCommands.{pack_status}
 use Rattle.rec_faults.specs.Status.{export_status, reading_status}
 use Rattle.rec_faults.specs.WritingCommands.{upgrade_status}
 use Rattle.rec_program.specs.BundleTraces.{PrintsTrace}
@@ -55,29 +60,31 @@ Refused settings RefusesWithin bytes status =
     ((settings.session_limit < length bytes) × (status ≡ 4))
     ⊎ ((length bytes ≤ settings.session_limit) × RefusesWithin bytes status)
 
--- a command refuses bytes with this status, which is that of their first refusal
-abbrev pub Refuses : (List ℕ → ℕ) → Asked → List ℕ → ℕ → Type 0
-Refuses number (recording path settings) = Refused settings (RefusesSession number settings)
-Refuses number (tracing settings) =
+-- a command refuses bytes with this status, which is that of their first refusal; `pack` that of
+-- the disk's files and of the bytes that close their run
+abbrev pub Refuses : (List ℕ → ℕ) → Asked → Option Files → List ℕ → ℕ → Type 0
+Refuses number (recording path settings) files = Refused settings (RefusesSession number settings)
+Refuses number (tracing settings) files =
     Refused settings
     (RefusesBundle (PrintsTrace settings.group_by settings.message_format) settings)
-Refuses number (replaying output settings) =
+Refuses number (replaying output settings) files =
     Refused settings (RefusesBundle (PrintsReplay output) settings)
-Refuses number (reporting settings) = Refused settings (RefusesBundle PrintsReport settings)
-Refuses number (informing settings) = Refused settings (RefusesBundle PrintsInfo settings)
-Refuses number (slotting settings) = Refused settings (RefusesBundle PrintsSlots settings)
-Refuses number (rerunning settings) = Refused settings (RefusesBundle PrintsRerun settings)
-Refuses number (viewing output settings) =
+Refuses number (reporting settings) files = Refused settings (RefusesBundle PrintsReport settings)
+Refuses number (informing settings) files = Refused settings (RefusesBundle PrintsInfo settings)
+Refuses number (slotting settings) files = Refused settings (RefusesBundle PrintsSlots settings)
+Refuses number (rerunning settings) files = Refused settings (RefusesBundle PrintsRerun settings)
+Refuses number (viewing output settings) files =
     Refused settings (RefusesBundle (PrintsView output) settings)
-Refuses number (sampling n path settings) = Refused settings (RefusesSession number settings)
-Refuses number (upgrading path settings) =
+Refuses number (sampling n path settings) files = Refused settings (RefusesSession number settings)
+Refuses number (upgrading path settings) files =
     Refused settings (λ bytes status. (e : UpgradeError) × IsRefused bytes settings.read_limit e
     × (status ≡ upgrade_status e))
-Refuses number (salvaging path settings) =
+Refuses number (salvaging path settings) files =
     Refused settings (λ bytes status. (e : SalvageRefusal)
     × IsMadeOf bundle_refusal SalvagesRun settings.read_limit bytes (Err e)
     × (status ≡ refusal_status e))
-Refuses number (living path settings) = RefusesLive number settings
-Refuses number (packing directory path settings) = λ bytes status. ⊥
-Refuses number help = λ bytes status. ⊥
-Refuses number version = λ bytes status. ⊥
+Refuses number (living path settings) files = RefusesLive number settings
+Refuses number (packing directory path settings) files = λ bytes status. (e : PackError)
+    × IsUnpackable files directory settings.session_limit bytes e × (status ≡ pack_status e)
+Refuses number help files = λ bytes status. ⊥
+Refuses number version files = λ bytes status. ⊥

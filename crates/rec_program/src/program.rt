@@ -12,7 +12,7 @@ ghost use Rattle.rec_export.specs.declared.settings.Settings.{Settings};
 ghost use Rattle.rec_words.specs.Words.{Asked, command, texts, tracing, upgrading};
 ghost use Rattle.rec_program.specs.Counts.{counts_line};
 ghost use Rattle.rec_program.specs.Objects.{lent};
-ghost use Rattle.rec_program.specs.Promises.{Accepts, Admits, IsTold, Judges, LeavesFiles};
+ghost use Rattle.rec_program.specs.Promises.{Accepts, IsTold, Judges, LeavesFiles};
 ghost use Rattle.rec_program.specs.Promises.{Stops, Succeeds, Undisturbed};
 ghost use Rattle.rec_program.specs.Running.{Prints, Records, RecordsSample, Runs, RunsLive};
 ghost use Rattle.rec_program.specs.Running.{RunsSalvage};
@@ -100,34 +100,33 @@ pub fn run_program<S: Source, B: Sink, F: Sink, D: Disk, T: Sink, G: Sink>(
     // Status 2 comes exactly where the words are faulty.
     ensures faulty_words { (result.status ≡ 2) ↔ IsErr (command (texts words.now)) }
 
-    // Where none of the objects that the command uses failed, bytes that it accepts end with status
-    // 0, or with 70 for want of memory.
+    // Where none of the objects that the command uses failed, what it accepts ends with status 0,
+    // or with 70 for want of memory.
     ensures completes { (asked : Asked) (bytes : List ℕ)
         → command (texts words.now) ≡ Ok asked
-        → Judges asked (S.left streams.source) bytes
-        → Accepts sha256_number asked bytes
+        → Judges asked (S.left streams.source) (D.files streams.disk) bytes
+        → Accepts sha256_number asked (D.files streams.disk) bytes
         → Undisturbed (lent S.Source B.Sink F.Sink D.Disk T.Sink G.Sink streams
         result.streams) asked
         → (result.status ≡ 0) ⊎ (result.status ≡ 70) }
 
-    // Status 0 comes only for bytes that the command accepts; of `live`, for a session that nothing
-    // in it refuses.
+    // Status 0 comes only for what the command accepts.
     ensures accepts { (asked : Asked) (bytes : List ℕ)
         → command (texts words.now) ≡ Ok asked
-        → Judges asked (S.left streams.source) bytes
+        → Judges asked (S.left streams.source) (D.files streams.disk) bytes
         → result.status ≡ 0
-        → Admits sha256_number asked bytes }
+        → Accepts sha256_number asked (D.files streams.disk) bytes }
 
     // Where none of the objects that the command uses failed, a status other than 0 and 70 comes
-    // only for bytes that the command refuses with it.
+    // only for what the command refuses with it.
     ensures refuses { (asked : Asked) (bytes : List ℕ)
         → command (texts words.now) ≡ Ok asked
-        → Judges asked (S.left streams.source) bytes
+        → Judges asked (S.left streams.source) (D.files streams.disk) bytes
         → Undisturbed (lent S.Source B.Sink F.Sink D.Disk T.Sink G.Sink streams
         result.streams) asked
         → ¬ (result.status ≡ 0)
         → ¬ (result.status ≡ 70)
-        → Refuses sha256_number asked bytes result.status }
+        → Refuses sha256_number asked (D.files streams.disk) bytes result.status }
 
     // A text about the program takes no memory: it ends with status 0, or with 11 where `out`
     // failed.
@@ -142,7 +141,7 @@ pub fn run_program<S: Source, B: Sink, F: Sink, D: Disk, T: Sink, G: Sink>(
     ensures upgradable { (path : List ℕ) (settings : Settings) (bytes : List ℕ) (run : RunRecord)
         → length bytes ≤ settings.session_limit
         → IsUpgradable bytes settings.read_limit run
-        → Accepts sha256_number (upgrading path settings) bytes }
+        → Accepts sha256_number (upgrading path settings) (D.files streams.disk) bytes }
 
     // Of a bundle that a recording wrote, `trace` prints the text that the recording printed, where
     // both draw and write it alike.

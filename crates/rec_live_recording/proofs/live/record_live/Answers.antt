@@ -7,7 +7,8 @@ use Rattle.rec_store.specs.Recording.{Recording}
 use Rattle.rec_live_recording.proofs.LinesRead.{fresh_left}
 use Rattle.rec_live_recording.proofs.live.record_live.Goals as goal
 use Rattle.rec_live_recording.proofs.Recorded.{keeps}
-use Rattle.rec_live_recording.proofs.SessionEnds.{end_valid, ended_cause, finished_end, third_of}
+use Rattle.rec_live_recording.proofs.SessionEnds.{end_recordable, ended_cause, finished_end}
+use Rattle.rec_live_recording.proofs.SessionEnds.{third_of}
 use Rattle.rec_live_recording.proofs.SessionRecorded.{only_memory}
 use Rattle.rec_live_recording.specs.Acknowledgements.{count_lines}
 use Rattle.rec_live_recording.specs.declared.errors.LiveError.{LiveError}
@@ -76,12 +77,14 @@ returns-clause-whole g c = λ session known store log.
     let whole = subst (λ (first : Recording g.row.S.Denot g.row.L.Denot g.row.N.Denot).
     OnOk run.result ((recording_refusal (number first.namer) first.max_output session ≡ None)
     × HasRun number first.namer first.max_output session all before manifest r
-    × (g.S.Sink.faults first.store.sink ≤ g.S.Sink.faults r.store.sink)))
+    × (g.S.Sink.faults first.store.sink ≤ g.S.Sink.faults r.store.sink)
+    × (length session ≤ c.args.lines.now.limit)))
     c.new-recorder.ensures.made (run.ensures.whole (length session) session left) in
     finished_end g.S.Sink.taken g.L.Sink.taken g.O.Sink.taken number namer m session before manifest
     (g.O.Sink.taken c.args.out.now) r run.new.out end.result.1 end.result.2 end.ensures.log
     (g.S.Sink.faults files.store ≤ g.S.Sink.faults r.store.sink)
-    run.result end.result.0 accepted run.ensures.sound whole end.ensures.ok end.ensures.ended
+    (length session ≤ c.args.lines.now.limit) run.result end.result.0 accepted run.ensures.sound
+    whole end.ensures.ok end.ensures.ended
 
 pub returns-clause-valid : goal.returns-clause-valid
 returns-clause-valid g c = λ session known.
@@ -96,13 +99,13 @@ returns-clause-valid g c = λ session known.
     OnOk run.result ((recording_refusal (number first.namer) first.max_output session ≡ None)
     × HasRun number first.namer first.max_output session (events_after_head session)
     (g.M.Sink.taken files.manifest) (g.M.Sink.taken run.new.manifest) r
-    × (faults first.store.sink ≤ faults r.store.sink)))
+    × (faults first.store.sink ≤ faults r.store.sink) × (total ≤ c.args.lines.now.limit)))
     c.new-recorder.ensures.made (run.ensures.whole total session left) in
-    end_valid (recording_refusal (number c.args.namer.now) c.args.max_output session ≡ None)
-    (HasRun number c.args.namer.now c.args.max_output session (events_after_head session)
-    (g.M.Sink.taken files.manifest) (g.M.Sink.taken run.new.manifest) r)
-    (faults files.store ≤ faults r.store.sink) run.result c.end_recording-result.result.0
-    c.end_recording-result.ensures.ok whole
+    end_recordable number c.args.namer.now c.args.max_output session
+    (g.M.Sink.taken files.manifest) (g.M.Sink.taken run.new.manifest) r
+    (faults files.store ≤ faults r.store.sink) c.args.lines.now.limit run.result
+    c.end_recording-result.result.0 whole c.end_recording-result.ensures.ok
+    c.end_recording-result.ensures.fits
 
 pub returns-clause-cause : goal.returns-clause-cause
 returns-clause-cause g c = λ session known.
@@ -129,7 +132,7 @@ returns-clause-cause g c = λ session known.
     OnOk run.result ((recording_refusal (number first.namer) first.max_output session ≡ None)
     × HasRun number first.namer first.max_output session (events_after_head session)
     (g.M.Sink.taken files.manifest) (g.M.Sink.taken run.new.manifest) r
-    × (faults first.store.sink ≤ faults r.store.sink)))
+    × (faults first.store.sink ≤ faults r.store.sink) × (total ≤ c.args.lines.now.limit)))
     c.new-recorder.ensures.made (run.ensures.whole total session left) in
     ended_cause faults g.L.Sink.faults manifest out
     (IsRefused failed limit total
@@ -140,7 +143,7 @@ returns-clause-cause g c = λ session known.
     (recording_refusal (number c.args.namer.now) c.args.max_output session ≡ None)
     (HasRun number c.args.namer.now c.args.max_output session (events_after_head session)
     (g.M.Sink.taken files.manifest) (g.M.Sink.taken run.new.manifest) r)
-    (faults files.store ≤ faults r.store.sink) run.result whole) end.ensures.err
+    (faults files.store ≤ faults r.store.sink) (total ≤ limit) run.result whole) end.ensures.err
 
 pub returns-clause-completes : goal.returns-clause-completes
 returns-clause-completes g c =

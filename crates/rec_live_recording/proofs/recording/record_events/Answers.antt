@@ -1,4 +1,4 @@
-use Rattle.std.proofs.Common.{◌≡◌, ℕ, [], ◌∷◌, ◌++◌, List, length, Bool, Ok, Result, ap, subst}
+use Rattle.std.proofs.Common.{◌≡◌, ◌≤◌, ℕ, [], ◌∷◌, ◌++◌, List, length, Bool, Ok, Result, ap, subst}
 use Rattle.std.proofs.Common.{refl, sym, ◌∙◌, arith, length-append}
 use Rattle.std.proofs.lemmas.Result.{err_from_is_err_and}
 use Rattle.std.specs.Option.{option_to_list}
@@ -181,4 +181,4 @@ returns-clause-recorded g c = λ total text namer m head is has.
     let end = amid_end g.N.OutputNamer.number namer m head
     (lines_after c.args.lines.now.number text) (lines_after c.lines.lines.number k.0) k.1
     c.lines.recorder (ap (lines_after c.lines.lines.number) read.0) k.4 in
-    (end.0, end.1, k.5)
+    (end.0, end.1, k.5, subst (λ n. total ≤ n) c.lines.invariant.limit read.2)

@@ -87,7 +87,7 @@ returns-clause-whole g c = λ total text is.
     (g.O.Sink.faults new.out) head.later.store
     (Rose (g.I.Source.faults lines.source) (g.I.Source.faults new.lines.source)) lines.limit total
     (g.M.Sink.taken c.args.manifest.now) (g.M.Sink.taken c.record_head.new.manifest)
-    run.manifest_taken c.record_events.result
+    c.args.lines.now.limit head.next.limit run.manifest_taken c.record_events.result
     (c.record_events.ensures.recorded total rest.0 first.namer first.max_output run.head rest.2
     run.recorded)
 

@@ -14,8 +14,8 @@ returns-in_err-made-clause-err g c =
     unmade g.S.Source.left g.S.Source.faults c.args.limit c.args.closing.now
     c.closed_run-run.new.closing c.args.run_dir.now c.args.path.now (files c.args.disk.now)
     (files c.read_manifest.new.disk) (files c.make-made.new.disk) c.in_ok-manifest.manifest
-    c.in_ok-manifest.ensures.ok _ _ _ _ c.read_manifest.ensures.same
-    c.read_manifest.ensures.later none
+    c.in_ok-manifest.ensures.ok c.in_ok-run.run' c.in_ok-run.ensures.ok _ _ _ _
+    c.read_manifest.ensures.same c.read_manifest.ensures.later none
 
 pub returns-clause-ok : goal.returns-clause-ok
 returns-clause-ok g c =
@@ -41,7 +41,8 @@ returns-clause-err g c =
     unwritten g.S.Source.left g.S.Source.faults c.args.limit c.args.closing.now
     c.closed_run-run.new.closing c.args.run_dir.now c.args.path.now (files c.args.disk.now)
     (files c.make-made.new.disk) (files c.write.new.disk) c.in_ok-manifest.manifest
-    c.in_ok-manifest.ensures.ok c.write.result (faults c.args.disk.now)
+    c.in_ok-manifest.ensures.ok c.in_ok-run.run' c.in_ok-run.ensures.ok c.write.result
+    (faults c.args.disk.now)
     (faults c.make-made.new.disk) (faults c.write.new.disk)
     (c.make-made.ensures.same ∙ c.read_manifest.ensures.same) (omega (arith, read, made))
     c.write.ensures.err

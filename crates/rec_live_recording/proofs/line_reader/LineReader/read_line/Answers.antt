@@ -1,4 +1,4 @@
-use Rattle.std.proofs.Common.{◌≡◌, ◌+◌, length, true, false, Ok, ap}
+use Rattle.std.proofs.Common.{◌≡◌, ◌+◌, ◌≤◌, length, true, false, Ok, ap}
 use Rattle.std.proofs.Common.{subst, ◌∙◌, arith, length-append, Bool}
 use Rattle.std.proofs.lemmas.Result.{err_from_is_err_and}
 use Rattle.rec_live_recording.proofs.line_reader.LineReader.read_line.Goals as goal
@@ -39,6 +39,9 @@ returns-then-not-branch-2-clause-read g c = λ total text is.
     c.end_line.new.self c.end_line.result
     (ap (λ (r : LineReading _). r.line) read.kept)
     (ap (λ (r : LineReading _). r.number) read.kept ∙ takes.3 ∙ i.number)
+    (subst (λ n. c.read_piece.new.self.given ≤ n)
+    (ap (λ (r : LineReading _). r.limit) read.kept ∙ ap (λ (r : LineReading _). r.limit) kept
+    ∙ i.limit) read.within)
     c.end_line.ensures.kept mid none c.end_line.ensures.ended
 
 pub pieces-smaller : goal.pieces-smaller
