@@ -6,7 +6,8 @@ use Rattle.std.specs.Prelude.{true, false, if◌then◌else◌, Option, Some, No
 use Rattle.std.specs.Prelude.{option_to_list, Result, Ok, Err, ⊤, alloc_error}
 use Rattle.rec_container.specs.Causes.{Rose}
 use Rattle.rec_format.specs.declared.run.RecordedRunInfo.{RecordedRunInfo}
-use Rattle.rec_session.specs.Asking.{Asked, ask, under_lock, StopsAt, StopsLocked}
+use Rattle.rec_session.specs.Asking.{Asked, ask, in_store, under_lock}
+use Rattle.rec_session.specs.Asking.{StopsAt, StopsInStore, StopsLocked}
 use Rattle.rec_session.specs.declared.ending.RunEnding.{RunEnding}
 use Rattle.rec_session.specs.declared.finalize.RecordFinalizeResult.{RecordFinalizeResult}
 use Rattle.rec_session.specs.declared.finalize.RecordFinalizeWarning.TheVariants.{
@@ -21,7 +22,7 @@ use Rattle.rec_session.specs.declared.finalize.RecordFinalizeWarning.{RecordFina
 use Rattle.rec_session.specs.declared.keeper.KeeperError.TheVariants.{Failed, OutOfMemory}
 use Rattle.rec_session.specs.declared.keeper.KeeperError.{KeeperError}
 use Rattle.rec_session.specs.declared.keeper.PruneResult.{PruneResult}
-use Rattle.rec_session.specs.Keepers.{Keeping, Pruned, fails, called, locked}
+use Rattle.rec_session.specs.Keepers.{Keeping, Pruned, fails, called, locked, opened}
 use Rattle.rec_session.specs.Keepers.{has_run, with_end, with_pruned}
 
 -- ---- over a keeper that is known
@@ -64,11 +65,12 @@ complete_and_prune end pruned k =
     }
 
 -- the warnings, what pruning answered, and the keeper that is left
-abbrev pub finalized : RunEnding → (List RecordedRunInfo → Pruned) → Keeping
+abbrev pub finalized : List ℕ → RunEnding → (List RecordedRunInfo → Pruned) → Keeping
     → Asked RecordFinalizeResult
-finalized end pruned =
+finalized dir end pruned =
     ask (warned (StoreOpenFailed ∷ []))
-    (ask (warned (StoreLockFailed ∷ [])) (under_lock (complete_and_prune end pruned)))
+    (in_store dir
+    (ask (warned (StoreLockFailed ∷ [])) (under_lock (complete_and_prune end pruned))))
 
 -- where memory runs out, some of the calls were made: none, the first, or both
 abbrev pub StopsCompleting : RunEnding → (List RecordedRunInfo → Pruned) → Keeping → Keeping
@@ -77,16 +79,17 @@ StopsCompleting end pruned k j =
     (j ≡ k) ⊎ (j ≡ called k) ⊎ (j ≡ (complete end k).keeper)
     ⊎ (j ≡ called (complete end k).keeper) ⊎ (j ≡ (complete_and_prune end pruned k).keeper)
 
-abbrev pub StopsFinalizing : RunEnding → (List RecordedRunInfo → Pruned) → Keeping → Keeping
-    → Type 0
-StopsFinalizing end pruned = StopsAt (StopsAt (StopsLocked (StopsCompleting end pruned)))
+abbrev pub StopsFinalizing : List ℕ → RunEnding → (List RecordedRunInfo → Pruned) → Keeping
+    → Keeping → Type 0
+StopsFinalizing dir end pruned =
+    StopsAt (StopsInStore dir (StopsAt (StopsLocked (StopsCompleting end pruned))))
 
 -- what comes of it all
-abbrev pub Finalizes : {E : Type 0} → RunEnding → (List RecordedRunInfo → Pruned) → Keeping
-    → Keeping → Result RecordFinalizeResult E → Type 0
-Finalizes end pruned k j (Ok result) =
-    finalized end pruned k ≡ record { answer = result; keeper = j }
-Finalizes end pruned k j (Err e) = StopsFinalizing end pruned k j
+abbrev pub Finalizes : {E : Type 0} → List ℕ → RunEnding → (List RecordedRunInfo → Pruned)
+    → Keeping → Keeping → Result RecordFinalizeResult E → Type 0
+Finalizes dir end pruned k j (Ok result) =
+    finalized dir end pruned k ≡ record { answer = result; keeper = j }
+Finalizes dir end pruned k j (Err e) = StopsFinalizing dir end pruned k j
 
 -- ---- over any keeper
 
@@ -119,16 +122,17 @@ completion_warning id (Err Failed) = Ok (Some MetadataPersistFailed)
 completion_warning id (Err OutOfMemory) = Err alloc_error
 
 -- the store is locked, or this is all that comes of it, whatever would follow
-abbrev pub LocksStore : Keeping → Keeping → Result (Option RecordFinalizeWarning) AllocError
-    → Type 0
-LocksStore k j (Ok None) =
-    (fails k ≡ false) × (fails (called k) ≡ false) × (j ≡ locked (called (called k)))
-LocksStore k j (Ok (Some warning)) =
+abbrev pub LocksStore : List ℕ → Keeping → Keeping
+    → Result (Option RecordFinalizeWarning) AllocError → Type 0
+LocksStore dir k j (Ok None) =
+    (fails k ≡ false) × (fails (called k) ≡ false)
+    × (j ≡ locked (called (opened dir (called k))))
+LocksStore dir k j (Ok (Some warning)) =
     (end : RunEnding) (pruned : List RecordedRunInfo → Pruned)
-    → Finalizes {E = AllocError} end pruned k j (Ok (warned (warning ∷ [])))
-    × StopsFinalizing end pruned k j
-LocksStore k j (Err e) =
-    (end : RunEnding) (pruned : List RecordedRunInfo → Pruned) → StopsFinalizing end pruned k j
+    → Finalizes {E = AllocError} dir end pruned k j (Ok (warned (warning ∷ [])))
+    × StopsFinalizing dir end pruned k j
+LocksStore dir k j (Err e) =
+    (end : RunEnding) (pruned : List RecordedRunInfo → Pruned) → StopsFinalizing dir end pruned k j
 
 -- the run got its end, or not
 abbrev pub Completes : RunEnding → Keeping → Keeping

@@ -16,10 +16,13 @@ use Rattle.rec_session.specs.declared.keeper.KeeperError.TheVariants.{Failed, Ou
 use Rattle.rec_session.specs.declared.keeper.KeeperError.{KeeperError}
 use Rattle.rec_session.specs.declared.keeper.PruneResult.{PruneResult}
 
--- the runs, whether they are locked, the calls made so far but `unlock`, and the calls that fail
+-- the runs, the directory of the store that was opened last, whether it is locked, how often it was
+-- unlocked, the calls made so far but `unlock`, and the calls that fail
 pub record Keeping : Type 0 where
   pub runs : List RecordedRunInfo
+  pub store : Option (List ℕ)
   pub locked : Bool
+  pub unlocks : ℕ
   pub calls : ℕ
   pub fail_at : List ℕ
 
@@ -38,11 +41,16 @@ fails k = list_any (λ n. n == next_count k.calls) k.fail_at
 abbrev pub called : Keeping → Keeping
 called k = record k { calls = next_count k.calls }
 
+-- the store in a directory was opened
+abbrev pub opened : List ℕ → Keeping → Keeping
+opened dir k = record k { store = Some dir }
+
 abbrev pub locked : Keeping → Keeping
 locked k = record k { locked = true }
 
+-- the store was unlocked once more
 abbrev pub unlocked : Keeping → Keeping
-unlocked k = record k { locked = false }
+unlocked k = record k { locked = false; unlocks = next_count k.unlocks }
 
 -- the call fails where it is one that fails, and changes nothing then,
 -- nor where memory runs out; else this comes of it
@@ -92,8 +100,8 @@ with_pruned pruned k = record k { runs = (pruned k.runs).runs }
 abbrev pub GivesDirectory : List ℕ → Keeping → Keeping → Result (String Global) KeeperError → Type 0
 GivesDirectory dir k j = IsCall (λ text. (string_bytes text ≡ dir) × (j ≡ called k)) k j
 
-abbrev pub Opens : Keeping → Keeping → Result ⊤ KeeperError → Type 0
-Opens k j = IsCall (λ _. j ≡ called k) k j
+abbrev pub Opens : List ℕ → Keeping → Keeping → Result ⊤ KeeperError → Type 0
+Opens dir k j = IsCall (λ _. j ≡ opened dir (called k)) k j
 
 abbrev pub Locks : Keeping → Keeping → Result ⊤ KeeperError → Type 0
 Locks k j = IsCall (λ _. j ≡ locked (called k)) k j

@@ -12,7 +12,8 @@ use Rattle.rec_format.specs.Sizes.{no_sizes}
 use Rattle.rec_store.specs.declared.error.RunStoreError.TheVariants as store_error
 use Rattle.rec_store.specs.declared.error.RunStoreError.{RunStoreError}
 use Rattle.rec_store.specs.Recording.{Recording}
-use Rattle.rec_session.specs.Asking.{Asked, ask, under_lock, StopsAt, StopsLocked}
+use Rattle.rec_session.specs.Asking.{Asked, ask, in_store, under_lock}
+use Rattle.rec_session.specs.Asking.{StopsAt, StopsInStore, StopsLocked}
 use Rattle.rec_session.specs.Creating.{Refused, IsStoreCause}
 use Rattle.rec_session.specs.declared.keeper.KeeperError.TheVariants as keeper_error
 use Rattle.rec_session.specs.declared.keeper.KeeperError.{KeeperError}
@@ -28,7 +29,7 @@ use Rattle.rec_session.specs.declared.setup.RecordSetupError.TheVariants.{
 }
 use Rattle.rec_session.specs.declared.setup.RecordSetupError.{RecordSetupError}
 use Rattle.rec_session.specs.declared.setup.RecordSetupFailed.{RecordSetupFailed}
-use Rattle.rec_session.specs.Keepers.{Keeping, fails, called, locked, with_run, ids_of}
+use Rattle.rec_session.specs.Keepers.{Keeping, fails, called, locked, opened, with_run, ids_of}
 use Rattle.rec_session.specs.Sessions.{Session}
 
 -- the run that is created: it has only begun
@@ -55,32 +56,37 @@ create run =
     ask (Some (RecorderCreate Keeper)) (λ k. record { answer = None; keeper = with_run run k })
 
 -- the refusal, if a call fails, and the keeper that is left
-abbrev pub set_up : RecordedRunInfo → Keeping → Asked (Option RecordSetupError)
-set_up run =
+abbrev pub set_up : List ℕ → RecordedRunInfo → Keeping → Asked (Option RecordSetupError)
+set_up dir run =
     ask (Some StateDirNotFound)
-    (ask (Some StoreCreate) (ask (Some StoreLock) (under_lock (create run))))
+    (ask (Some StoreCreate) (in_store dir (ask (Some StoreLock) (under_lock (create run)))))
 
 -- where memory runs out, some of the calls were made
-abbrev pub StopsSetUp : RecordedRunInfo → Keeping → Keeping → Type 0
-StopsSetUp run = StopsAt (StopsAt (StopsAt (StopsLocked (StopsAt (λ k j. j ≡ with_run run k)))))
+abbrev pub StopsSetUp : List ℕ → RecordedRunInfo → Keeping → Keeping → Type 0
+StopsSetUp dir run =
+    StopsAt
+    (StopsAt (StopsInStore dir (StopsAt (StopsLocked (StopsAt (λ k j. j ≡ with_run run k))))))
 
 -- why no session was set up: a call failed; or all went well, but the recorder refused;
 -- or memory ran out
-abbrev pub RefusesSetUp : RecordedRunInfo → Keeping → Keeping → RecordSetupError → Type 0
-RefusesSetUp run k j StateDirNotFound =
-    set_up run k ≡ record { answer = Some StateDirNotFound; keeper = j }
-RefusesSetUp run k j StoreCreate = set_up run k ≡ record { answer = Some StoreCreate; keeper = j }
-RefusesSetUp run k j StoreLock = set_up run k ≡ record { answer = Some StoreLock; keeper = j }
-RefusesSetUp run k j (RecorderCreate Keeper) =
-    set_up run k ≡ record { answer = Some (RecorderCreate Keeper); keeper = j }
-RefusesSetUp run k j (RecorderCreate (Store e)) =
-    set_up run k ≡ record { answer = None; keeper = j }
-RefusesSetUp run k j OutOfMemory = StopsSetUp run k j
+abbrev pub RefusesSetUp : List ℕ → RecordedRunInfo → Keeping → Keeping → RecordSetupError
+    → Type 0
+RefusesSetUp dir run k j StateDirNotFound =
+    set_up dir run k ≡ record { answer = Some StateDirNotFound; keeper = j }
+RefusesSetUp dir run k j StoreCreate =
+    set_up dir run k ≡ record { answer = Some StoreCreate; keeper = j }
+RefusesSetUp dir run k j StoreLock =
+    set_up dir run k ≡ record { answer = Some StoreLock; keeper = j }
+RefusesSetUp dir run k j (RecorderCreate Keeper) =
+    set_up dir run k ≡ record { answer = Some (RecorderCreate Keeper); keeper = j }
+RefusesSetUp dir run k j (RecorderCreate (Store e)) =
+    set_up dir run k ≡ record { answer = None; keeper = j }
+RefusesSetUp dir run k j OutOfMemory = StopsSetUp dir run k j
 
 -- a session was set up: all calls went well, and it has what they answered
 pub record SetsUp (dir : List ℕ) (run : RecordedRunInfo) (k j : Keeping)
     (session : Session) : Type 0 where
-  pub asked : set_up run k ≡ record { answer = None; keeper = j }
+  pub asked : set_up dir run k ≡ record { answer = None; keeper = j }
   pub state_dir : session.state_dir ≡ dir
   pub prefix : IsShortest (ids_of j.runs) run.run_id session.prefix
 
@@ -88,7 +94,7 @@ pub record SetsUp (dir : List ℕ) (run : RecordedRunInfo) (k j : Keeping)
 abbrev pub SetsUpOr : {S L N : Type 0} → List ℕ → RecordedRunInfo → Keeping → Keeping
     → Result (RecordSessionSetup S L N) (RecordSetupFailed S L) → Type 0
 SetsUpOr dir run k j (Ok setup) = SetsUp dir run k j setup.session
-SetsUpOr dir run k j (Err failed) = RefusesSetUp run k j failed.error
+SetsUpOr dir run k j (Err failed) = RefusesSetUp dir run k j failed.error
 
 -- ---- over any keeper, and any sinks
 
@@ -165,17 +171,17 @@ store_refusal store_error.StoreWrite = RecorderCreate (Store store_error.StoreWr
 store_refusal store_error.RunLogWrite = RecorderCreate (Store store_error.RunLogWrite)
 
 -- the three calls up to the lock went well
-pub record IsLocked (k j : Keeping) : Type 0 where
+pub record IsLocked (dir : List ℕ) (k j : Keeping) : Type 0 where
   pub found : fails k ≡ false
-  pub opened : fails (called k) ≡ false
+  pub opens : fails (called k) ≡ false
   pub lock : fails (called (called k)) ≡ false
-  pub left : j ≡ locked (called (called (called k)))
+  pub left : j ≡ locked (called (opened dir (called (called k))))
 
 -- the store is locked in this directory, or no session of any run is set up
 abbrev pub LocksState : List ℕ → Keeping → Keeping → Result (String Global) RecordSetupError
     → Type 0
-LocksState dir k j (Ok text) = (string_bytes text ≡ dir) × IsLocked k j
-LocksState dir k j (Err e) = (run : RecordedRunInfo) → RefusesSetUp run k j e
+LocksState dir k j (Ok text) = (string_bytes text ≡ dir) × IsLocked dir k j
+LocksState dir k j (Err e) = (run : RecordedRunInfo) → RefusesSetUp dir run k j e
 
 -- why the run wasn't created, or no session followed from it, under the lock
 abbrev pub RefusesLocked : RecordedRunInfo → Keeping → Keeping → RecordSetupError → Type 0

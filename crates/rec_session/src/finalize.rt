@@ -103,7 +103,7 @@ pub(crate) fn finalize_run<K: RunKeeper>(
     policy: &RecordRetentionPolicy,
 ) -> Result<RecordFinalizeResult, AllocError>
     ensures told { Told (K.known keeper.old) (K.known keeper.new)
-        (λ k j. Finalizes ending.now (K.pruned policy.now) k j result) }
+        (λ k j. Finalizes state_dir.now ending.now (K.pruned policy.now) k j result) }
     ensures cause { IfOk result
         (λ r. AreCaused (K.faults keeper.old) (K.faults keeper.new) r.warnings) }
     ensures later { K.faults keeper.old ≤ K.faults keeper.new }
@@ -121,7 +121,8 @@ fn lock_store<K: RunKeeper>(
     keeper: &mut K,
     state_dir: &str,
 ) -> Result<Option<RecordFinalizeWarning>, AllocError>
-    ensures told { Told (K.known keeper.old) (K.known keeper.new) (λ k j. LocksStore k j result) }
+    ensures told { Told (K.known keeper.old) (K.known keeper.new)
+        (λ k j. LocksStore state_dir.now k j result) }
     ensures cause { IfOk result
         (λ w. IfSome w (IsWarningCause (K.faults keeper.old) (K.faults keeper.new))) }
     ensures later { K.faults keeper.old ≤ K.faults keeper.new }

@@ -73,10 +73,11 @@ pub struct PruneResult {
 
 /// Keeps recorded runs in a store, which one session at a time locks.
 ///
-/// Contracts see of a keeper a count of faults. Where they are known, also its runs, whether it is
-/// locked, the number of its calls so far but `unlock`, and the numbers of the calls that fail. It
-/// answers `Failed` only where its count rises, and where the numbers are known exactly at such a
-/// call. A call that answers an error changes no run and no lock.
+/// Contracts see of a keeper a count of faults. Where they are known, also its runs, the directory
+/// whose store was opened last, whether it is locked and how often it was unlocked, the number of
+/// its calls so far but `unlock`, and the numbers of the calls that fail. It answers `Failed` only
+/// where its count rises, and where the numbers are known exactly at such a call. A call that
+/// answers an error changes no run, no lock and no store that is open.
 pub trait RunKeeper {
     /// Names the runs, the lock and the calls, where they are known.
     ghost known: { Self → Option Keeping };
@@ -107,7 +108,8 @@ pub trait RunKeeper {
     ///
     /// `Failed` means that the keeper failed and counted it, and `OutOfMemory` that memory ran out.
     fn open_store(&mut self, state_dir: &str) -> Result<(), KeeperError>
-        ensures told { Told (known self.old) (known self.new) (λ k j. Opens k j result) }
+        ensures told { Told (known self.old) (known self.new)
+            (λ k j. Opens state_dir.now k j result) }
         ensures cause { HasKeeperCause (faults self.old) (faults self.new) result };
 
     /// Locks the store.

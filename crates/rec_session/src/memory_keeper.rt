@@ -4,11 +4,11 @@
 //! it is there.
 ghost use Rattle.std.specs.List.{position};
 ghost use Rattle.std.specs.Prelude.{◌≡◌, ◌≤◌, ◌++◌, [], ◌∷◌, drop, false};
-ghost use Rattle.std.specs.Prelude.{vec_len, IfOk, IfErr, Some, string_bytes};
+ghost use Rattle.std.specs.Prelude.{vec_len, IfOk, IfErr, None, Some, string_bytes};
 ghost use Rattle.rec_format.specs.RunIds.{IsShortest};
 ghost use Rattle.rec_session.specs.declared.keeper.KeeperError.TheVariants.{Failed};
-ghost use Rattle.rec_session.specs.Keepers.{HasKeeperCause, GivesDirectory, Opens, Locks};
-ghost use Rattle.rec_session.specs.Keepers.{Unlocks, CreatesRun, CompletesRun, Prunes};
+ghost use Rattle.rec_session.specs.Keepers.{HasKeeperCause, IsCall, called, GivesDirectory, Opens};
+ghost use Rattle.rec_session.specs.Keepers.{Locks, Unlocks, CreatesRun, CompletesRun, Prunes};
 ghost use Rattle.rec_session.specs.Keepers.{ended, first_ended, has_run, ids_of, is_run};
 ghost use Rattle.rec_session.specs.MemoryKeepers.{pruned_by, CountsCall};
 
@@ -27,13 +27,16 @@ use std::marker::Model;
 pub struct MemoryKeeper {
     alloc: Global,
     runs: Vec<RecordedRunInfo>,
+    store: Option<String>,
     locked: bool,
+    unlocks: u64,
     calls: u64,
     fail_at: Vec<u64>,
     faults: u64,
 }
 
 impl Model for MemoryKeeper {
+    ghost use Rattle.std.specs.Prelude.{option_map, string_bytes};
     ghost use Rattle.rec_session.specs.MemoryKeepers.{MemoryKeeping};
 
     ghost Value = { MemoryKeeping };
@@ -42,7 +45,9 @@ impl Model for MemoryKeeper {
         record {
           kept = record {
             runs = k.runs.items;
+            store = option_map string_bytes k.store;
             locked = k.locked;
+            unlocks = k.unlocks;
             calls = k.calls;
             fail_at = k.fail_at.items;
           };
@@ -51,14 +56,16 @@ impl Model for MemoryKeeper {
 }
 
 impl MemoryKeeper {
-    /// Makes a keeper without runs, calls and faults, which isn't locked, and whose calls numbered
-    /// in `fail_at` fail.
+    /// Makes a keeper without runs, calls and faults, which has opened no store, isn't locked, and
+    /// whose calls numbered in `fail_at` fail.
     pub fn new(alloc: Global, fail_at: Vec<u64>) -> MemoryKeeper
         ensures { result
             ≡ record {
               kept = record {
                 runs = [];
+                store = None;
                 locked = false;
+                unlocks = 0;
                 calls = 0;
                 fail_at = fail_at.items;
               };
@@ -68,7 +75,9 @@ impl MemoryKeeper {
         MemoryKeeper {
             alloc,
             runs: Vec::new(alloc),
+            store: None,
             locked: false,
+            unlocks: 0,
             calls: 0,
             fail_at,
             faults: 0,
@@ -84,7 +93,8 @@ impl MemoryKeeper {
 
     /// Counts a call, and fails where its number is listed.
     fn begin(&mut self) -> Result<(), KeeperError>
-        ensures call { Opens self.old.kept self.new.kept result }
+        ensures call { IsCall (λ _. self.new.kept ≡ called self.old.kept) self.old.kept
+            self.new.kept result }
         ensures cause { HasKeeperCause self.old.faults self.new.faults result }
         ensures counted { CountsCall self.old self.new result }
         ensures failed { IfErr result (λ e. e ≡ Failed) }
@@ -117,12 +127,15 @@ impl RunKeeper for MemoryKeeper {
         Ok(String::from_str(self.alloc, workspace_root)?)
     }
 
-    fn open_store(&mut self, _state_dir: &str) -> Result<(), KeeperError>
-        ensures told { Opens self.old.kept self.new.kept result }
+    fn open_store(&mut self, state_dir: &str) -> Result<(), KeeperError>
+        ensures told { Opens state_dir.now self.old.kept self.new.kept result }
         ensures cause { HasKeeperCause self.old.faults self.new.faults result }
         ensures counted { CountsCall self.old self.new result }
     {
-        self.begin()
+        self.begin()?;
+        let store = String::from_str(self.alloc, state_dir)?;
+        self.store = Some(store);
+        Ok(())
     }
 
     fn lock(&mut self) -> Result<(), KeeperError>
@@ -141,6 +154,7 @@ impl RunKeeper for MemoryKeeper {
         ensures faults { self.new.faults ≡ self.old.faults }
     {
         self.locked = false;
+        self.unlocks = self.unlocks.saturating_add(1);
     }
 
     fn create_run(&mut self, run: &RecordedRunInfo) -> Result<ShortestRunIdPrefix, KeeperError>

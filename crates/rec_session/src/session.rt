@@ -149,8 +149,8 @@ impl RecordSession {
         // Over a keeper that is known.
         ensures told { IfSome recording_sizes
             (λ sizes. Told (K.known keeper.old) (K.known keeper.new) (λ k j.
-            Finalizes (ending_of self.run_id sizes run_finished exit_code) (K.pruned policy.now) k j
-            result)) }
+            Finalizes self.state_dir (ending_of self.run_id sizes run_finished exit_code)
+            (K.pruned policy.now) k j result)) }
 
         // Over any keeper.
         ensures none { IfNone recording_sizes
