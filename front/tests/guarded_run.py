@@ -1,8 +1,8 @@
 """Runs tests in a guarded process, and prints a line for each event: `python -m` this module.
 
 The words are `build` and a shell script to run first, `blocked` to write without end to standard
-output after the first start, `busy` to do nothing for a moment after each event, and shell scripts,
-which are the tests.
+output after the first start, `busy` to do nothing for a moment after each event, `patient` to give
+tests a minute to end after a signal, and shell scripts, which are the tests.
 """
 
 from __future__ import annotations
@@ -53,13 +53,14 @@ def work() -> int:
     """Do what the words say."""
     words = sys.argv[1:]
     print(f"worker {os.getpid()}", flush=True)
-    settings = Settings(2, timeout=3000 * MILLISECOND, cancel_grace=500 * MILLISECOND)
+    grace = 60_000 if "patient" in words else 500
+    settings = Settings(2, timeout=3000 * MILLISECOND, cancel_grace=grace * MILLISECOND)
     with Loop() as loop:
         if words[0] == "build":
             end = run_command(loop, program("sh", "-c", words[1]), lambda _: None)
             print(f"built {end.exit.status} {end.exit.signal} {end.cancelled}", flush=True)
             words = words[2:]
-        jobs = [shell(word) for word in words if word not in ("blocked", "busy")]
+        jobs = [shell(word) for word in words if word not in ("blocked", "busy", "patient")]
         for event in Run(loop, jobs, settings):
             line = line_of(event)
             if line:

@@ -139,7 +139,8 @@ def test_a_thousand_places_are_found(script: Script) -> None:
 def test_very_many_tests() -> None:
     attempt = {"number": 1, "seconds": 2}
     test = {"name": "t", "state": "passed", "binary": 0, "attempts": [attempt]}
-    value = {"binaries": ["alpha"], "outputs": [], "causes": [], "tests": [test] * 200_000}
+    value: dict[str, object] = {"binaries": ["alpha"], "outputs": [], "causes": [], "unnamed": 0}
+    value["tests"] = [test] * 200_000
     parts = [DOCUMENT, *map(document.part, ("text.js", "states.js", "data.js"))]
     parts.append("console.log(LONGEST, TEST_COUNT);")
     words = [NODE or "node", "-e", "\n".join(parts)]

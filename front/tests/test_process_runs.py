@@ -146,7 +146,7 @@ def test_what_cannot_be_started_is_tried_again() -> None:
 
 def test_a_slow_test_is_told_once() -> None:
     """And once more where it is ended."""
-    settings = Settings(1, slow_after=100 * MILLISECOND, timeout=400 * MILLISECOND)
+    settings = Settings(1, slow_after=100 * MILLISECOND, timeout=3000 * MILLISECOND)
     events = events_of([shell("sleep 0.3"), shell("sleep 9"), shell(":")], settings)
     assert list(told(events)) == [
         "start sleep 0.3 1",
@@ -161,7 +161,7 @@ def test_a_slow_test_is_told_once() -> None:
         "finished",
     ]
     slow = [event.elapsed for event in events if isinstance(event, Slow)]
-    least = [100 * MILLISECOND, 100 * MILLISECOND, 400 * MILLISECOND]
+    least = [100 * MILLISECOND, 100 * MILLISECOND, 3000 * MILLISECOND]
     assert all(elapsed >= bound for elapsed, bound in zip(slow, least, strict=True))
     is_slow = [event.ending.is_slow for event in events if isinstance(event, Ended)]
     assert is_slow == [True, True, False]
