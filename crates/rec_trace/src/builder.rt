@@ -25,7 +25,7 @@ use std::alloc::{AllocError, Global};
 
 /// Keeps what is needed to hand the trace events of the next event on.
 #[derive(Drop)]
-pub(crate) struct Handing {
+pub struct Handing {
     alloc: Global,
     tracer: Tracer,
     /// Whether the target failed.
@@ -88,10 +88,11 @@ impl Handing {
 }
 
 /// Builds a trace event by event, and hands its trace events on to a target. No event is kept.
+/// `H` is always `Handing`: as a parameter it lets `finish` say how it leaves the target.
 #[derive(Drop)]
-pub struct TraceBuilder<'t, T: TraceTarget> {
-    handing: Handing,
+pub struct TraceBuilder<'t, T: TraceTarget, H: Drop = Handing> {
     target: &'t mut T,
+    handing: H,
 }
 
 impl<'t, T: TraceTarget> TraceBuilder<'t, T> {
@@ -113,12 +114,12 @@ impl<'t, T: TraceTarget> TraceBuilder<'t, T> {
     {
         let version = version.try_clone(alloc)?;
         Ok(TraceBuilder {
+            target,
             handing: Handing {
                 alloc,
                 tracer: Tracer::new(alloc, version, group_by),
                 failed: false,
             },
-            target,
         })
     }
 
@@ -172,16 +173,17 @@ impl<'t, T: TraceTarget> TraceBuilder<'t, T> {
     }
 
     /// Ends the trace, and returns what it says of the run beside its events: the version of the
-    /// runner, and the last start of a run.
+    /// runner, and the last start of a run. The target stays as it is.
     ///
     /// # Errors
     ///
     /// Fails only where memory ran out.
     pub fn finish(self, alloc: Global) -> Result<Value, AllocError>
-        ensures { IfOk result
+        ensures told { IfOk result
             (λ v. (g : ChromeTraceGroupBy) (version : Parts) (events : List PlainEvent)
             → HandsOn g version events self.entry.handing
             → view v ≡ other_data version (known_of g events).last_run) }
+        ensures target { self.exit.0.now ≡ self.entry.target.now }
     {
         let tracer = &self.handing.tracer;
         let told = other_data(alloc, tracer.version(), tracer.last_run());

@@ -1,5 +1,5 @@
 use Rattle.std.proofs.Common.{subst, sym}
-use Rattle.rec_trace.proofs.builder.TraceBuilder.held.Goals as goal
+use Rattle.rec_trace.proofs.builder.TraceBuilder+T.held.Goals as goal
 use Rattle.rec_trace.specs.Held.{IsHeld}
 use Rattle.rec_trace.specs.Standing.{StandsFor}
 
