@@ -47,11 +47,11 @@ def test_all_of_it_comes_in_order(loop: Loop) -> None:
 @pytest.mark.parametrize("seconds", [0, 1])
 def test_nothing_waits_for_a_slow_process(loop: Loop, seconds: float) -> None:
     """Neither if it is much: the loop passes it on, or the end does."""
-    feed = feed_of(loop, "sleep 0.5; wc -c; echo done >&2; exit 3")
+    feed = feed_of(loop, "sleep 2; wc -c; echo done >&2; exit 3")
     begin = time.monotonic()
     for _ in range(20):
         feed.send(MEBIBYTE)
-    assert time.monotonic() - begin < 0.4
+    assert time.monotonic() - begin < 1.9
     turn(loop, seconds)
     feed.leave()
     assert feed.finish() == (3, b"done\n")

@@ -111,3 +111,14 @@ def test_a_wide_terminal_breaks_no_line(narrow: Screen) -> None:
 def test_each_failure_is_told_once_on_a_terminal(narrow: Screen) -> None:
     lines = Screen(narrow.front_end, 100).shows("test", "--from", str(LINES))
     assert sum("about to fail" in line for line in lines) == 1
+
+
+def test_each_failure_is_told_once_where_no_terminal_is(
+    front_end: FrontEnd, program: pathlib.Path
+) -> None:
+    """Its output stands there once, and the failures are in the order of their names."""
+    front_end.environment["REZOVAMY"] = str(program)
+    done = front_end.run("test", "--from", str(LINES))
+    printed = done.stdout + done.stderr
+    assert printed.count("about to fail") == 1 == printed.count("is no error")
+    assert printed.index("wrong answers_an_error") < printed.index("wrong expects_a_product")

@@ -209,16 +209,16 @@ def test_a_leak_is_told_and_is_no_failure() -> None:
     """What holds an output open after the end of the process is waited for only so long."""
     begin = time.monotonic()
     settings = Settings(1, retries=2)
-    [ending] = endings_of([libtest("t", 'sleep 3 & echo "ok t" > "$2"')], settings)["t"]
+    [ending] = endings_of([libtest("t", 'sleep 30 & echo "ok t" > "$2"')], settings)["t"]
     assert (ending.verdict, ending.leaked) == (Verdict.PASSED, True)
-    assert 0.1 <= time.monotonic() - begin < 2
-    assert ending.elapsed < 2 * SECOND
+    assert 0.1 <= time.monotonic() - begin < 20
+    assert ending.elapsed < 20 * SECOND
 
 
 def test_a_leak_is_no_timeout() -> None:
     """The process has ended in time."""
-    settings = Settings(1, timeout=200 * MILLISECOND, leak_wait=500 * MILLISECOND)
-    ending = ending_of(shell("sleep 1 &"), settings)
+    settings = Settings(1, timeout=2 * SECOND, leak_wait=3 * SECOND)
+    ending = ending_of(shell("sleep 9 &"), settings)
     assert (ending.verdict, ending.leaked, ending.is_slow) == (Verdict.PASSED, True, False)
 
 
@@ -243,19 +243,19 @@ def test_a_failure_may_leak_too() -> None:
 
 
 @pytest.mark.parametrize(
-    "text, number, least, most",
+    "text, number, least",
     [
-        ("sleep 60", signal.SIGTERM, 0.3, 0.5),
-        ("trap '' TERM; sleep 60 & wait; sleep 60", signal.SIGKILL, 0.5, 5),
-        ("trap '' TERM; while :; do echo on; done", signal.SIGKILL, 0.5, 5),
+        ("sleep 60", signal.SIGTERM, 1.5),
+        ("trap '' TERM; sleep 60 & wait; sleep 60", signal.SIGKILL, 1.7),
+        ("trap '' TERM; while :; do echo on; done", signal.SIGKILL, 1.7),
     ],
 )
-def test_a_timeout_ends_the_whole_group(text: str, number: int, least: float, most: float) -> None:
+def test_a_timeout_ends_the_whole_group(text: str, number: int, least: float) -> None:
     """It is asked to end, and killed after the grace."""
-    settings = Settings(1, timeout=300 * MILLISECOND, grace=200 * MILLISECOND)
+    settings = Settings(1, timeout=1500 * MILLISECOND, grace=200 * MILLISECOND)
     ending = ending_of(shell(text), settings)
     assert (ending.verdict, ending.exit) == (Verdict.TIMED_OUT, Exit(signal=number))
-    assert least * SECOND <= ending.elapsed < most * SECOND
+    assert least * SECOND <= ending.elapsed < 30 * SECOND
     assert not ending.leaked
 
 
@@ -265,18 +265,18 @@ def test_a_timeout_ends_what_went_to_another_group() -> None:
 import os, time
 other = os.fork()
 if other == 0:
-    time.sleep(1)
+    time.sleep(9)
     os._exit(0)
 os.setpgid(other, other)
 os.setpgid(0, other)
 time.sleep(60)
 """
-    ending = ending_of(python(text), Settings(1, timeout=300 * MILLISECOND))
+    ending = ending_of(python(text), Settings(1, timeout=2 * SECOND))
     assert (ending.verdict, ending.exit) == (Verdict.TIMED_OUT, Exit(signal=signal.SIGTERM))
 
 
 def test_a_timeout_counts_even_if_the_test_passes_then() -> None:
     """It passed too late."""
     text = 'trap \'echo "ok t" > "$2"; exit 0\' TERM; while :; do sleep 0.01; done'
-    ending = ending_of(libtest("t", text), Settings(1, timeout=300 * MILLISECOND))
+    ending = ending_of(libtest("t", text), Settings(1, timeout=2 * SECOND))
     assert (ending.verdict, ending.exit) == (Verdict.TIMED_OUT, Exit(0))

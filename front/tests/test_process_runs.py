@@ -126,7 +126,7 @@ def test_a_test_is_tried_again_until_it_passes(tmp_path: pathlib.Path) -> None:
 )
 def test_attempts_come_to_an_end(text: str, verdict: Verdict) -> None:
     """Whatever the failure is, there is one attempt more than retries."""
-    events = events_of([shell(text)], Settings(1, retries=2, timeout=200 * MILLISECOND))
+    events = events_of([shell(text)], Settings(1, retries=2, timeout=1000 * MILLISECOND))
     ended = [event for event in events if isinstance(event, Ended)]
     assert [(end.attempt, end.next_attempt) for end in ended] == [(1, 2), (2, 3), (3, None)]
     assert {(end.total_attempts, end.ending.verdict) for end in ended} == {(3, verdict)}
@@ -194,8 +194,8 @@ def test_fail_fast_waits_for_the_last_attempt(tmp_path: pathlib.Path) -> None:
 def test_setup_scripts_end_before_the_first_test(tmp_path: pathlib.Path) -> None:
     """They run one after the other."""
     path = tmp_path / "order"
-    scripts = [script("a", f"sleep 0.2; echo a >> {path}"), script("b", f"echo b >> {path}")]
-    settings = Settings(2, slow_after=100 * MILLISECOND, timeout=150 * MILLISECOND)
+    scripts = [script("a", f"sleep 1.5; echo a >> {path}"), script("b", f"echo b >> {path}")]
+    settings = Settings(2, slow_after=1000 * MILLISECOND, timeout=1200 * MILLISECOND)
     events = events_of([shell(f"cat {path}")], settings, scripts)
     assert list(told(events)) == [
         "script a 0 of 2",

@@ -320,9 +320,9 @@ def test_an_interrupt_at_the_end(endings: FrontEnd) -> None:
 def test_a_slow_disk_holds_up_no_test(endings: FrontEnd) -> None:
     """All events are recorded at the end."""
     program = endings.environment["REZOVAMY"]
-    endings.use_program(f'[ "$1" = live ] && sleep 5; exec {program} "$@"')
+    endings.use_program(f'[ "$1" = live ] && sleep 9; exec {program} "$@"')
     assert endings.run(*ENDS, "passes", "fails").returncode == 101
     run = only_run(endings)
     assert told(run, "status", "passed", "failed") == ("completed", 2, 1)
     seconds = run["seconds"]
-    assert isinstance(seconds, float) and seconds < 4
+    assert isinstance(seconds, float) and seconds < 8

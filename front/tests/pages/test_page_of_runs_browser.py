@@ -5,11 +5,13 @@ from __future__ import annotations
 import pytest
 
 from rezovamy_runs.store.notes import RunNotes
+from tests import histories, made
 from tests.browser import NEXT_FRAME, Browser
 from tests.firefox import Firefox
 from tests.front_end import FrontEnd
 from tests.histories import Folder, id_of
 from tests.opened_page import READY, Page
+from tests.page_sessions import with_binary
 
 pytestmark = pytest.mark.browser
 
@@ -72,6 +74,29 @@ def test_an_address_filters(opened: Page, fragment: str, rows: list[str], found:
     opened.browser.wait_until(f"{FOUND} === '{found}'")
     opened.evaluate(NEXT_FRAME)
     assert opened.texts(ROWS) == rows
+
+
+def test_a_package_filters(page: Page, front_end: FrontEnd) -> None:
+    folder = Folder(front_end.runs)
+    folder.add(1, "..")
+    events = [with_binary("beta::it", event) for event in histories.test_events(2, "b0", ".")]
+    text = made.bundle(made.run_started(2), *events, ended=made.completed(1, 0), run_id=id_of(2))
+    (folder.path / f"{id_of(2)}.bundle").write_bytes(text)
+    front_end.output("history", "--page")
+    page.address = (folder.path / "history.html").as_uri()
+    page.browser.events.clear()
+    page.browser.open(f"{page.address}#?package=beta")
+    page.browser.wait_until(READY)
+    assert page.texts(ROWS) == ["b0"]
+    assert page.evaluate(FOUND) == "1 of 3 tests, 2 runs"
+
+
+def test_a_test_has_a_line_of_its_times(opened: Page) -> None:
+    """From run to run, where it passed."""
+    opened.evaluate("location.hash = '#alpha/t0'")
+    opened.browser.wait_until("document.querySelector('.trend')")
+    told = opened.member(".trend", "getAttribute('aria-label')")
+    assert told == "Times from run to run. It takes 1.0s usually, from 1.0s to 1.0s; last 1.0s."
 
 
 def test_keys_go_through_the_grid(opened: Page) -> None:
